@@ -4,7 +4,7 @@ use Rattle.pj_run.specs.Jobs.{Job}
 use Rattle.pj_plan.specs.declared.node.PlanNode.{PlanNode}
 use Rattle.pj_plan.specs.Nodes.{streams_of}
 use Rattle.pj_safety.specs.Safety.{IsSafePlan}
-use Rattle.std.proofs.Common.{◌≡◌, ◌≢◌, ◌≤◌, ◌<◌, ◌+◌, ℕ, suc, Bool, true, inl, inr, List, [], ◌∷◌, map, length, take, Err, Some, IsTrue, refl, ap, ap₂, sym, ◌∙◌, subst, arith}
+use Rattle.std.proofs.Common.{◌≡◌, ◌≢◌, ◌≤◌, ◌<◌, ◌+◌, ℕ, suc, Bool, inl, inr, List, [], ◌∷◌, map, length, take, Err, Some, IsTrue, refl, ap, ap₂, sym, ◌∙◌, subst, arith}
 use Rattle.std.specs.Prelude.{slice_index_or, ◌^◌}
 use Rattle.std.proofs.lemmas.List.{take_all}
 use Rattle.pj_io.specs.Causes.{Rose}
@@ -21,7 +21,7 @@ use Rattle.pj_run.specs.declared.stops.RunStop.{RunStop}
 use Rattle.pj_run.specs.declared.stops.RunStop.TheVariants.{ReadFault as RunFault, TooLarge, Limit as RunLimit, WriteFailed, NoMemory as RunMemory, Cut as RunCut}
 use Rattle.pj_events.specs.declared.events.Stop.{Stop}
 use Rattle.pj_events.specs.declared.events.Stop.TheVariants.{Limit as CoreLimit, NoMemory as CoreMemory}
-use Rattle.pj_alone.specs.Calls.{Call, file_names, job_if, job_of, operand, behind_first, plan_bytes, stream_files, IsTold, HasToldPlan}
+use Rattle.pj_alone.specs.Calls.{running, Call, file_names, job_if, job_of, operand, behind_first, plan_bytes, stream_files, IsTold, HasToldPlan}
 use Rattle.pj_feed.specs.Named.{files_named, AreTold, IsAlone}
 use Rattle.pj_run.specs.Ends.{EndsBefore, EndsAtBytes, EndsAtLimit, EndsCut, ArrivedOf}
 use Rattle.pj_feed.specs.Opened.{OpensFirst, IsReadToEnd, AreReadToEnd, StayOutside}
@@ -85,7 +85,7 @@ module _ (call : Call) (files : List (List ℕ)) (mid : FolderState) (named : ca
   pub all_read : (new : FolderState) → (HasToldPlan call → IsReadToEnd (operand call.names 1) call.folder new) → AreReadToEnd files mid new → AreReadToEnd call.names call.folder new
   all_read new first rest = subst (λ (ns : List (List ℕ)). AreReadToEnd ns call.folder new) (sym named) (first, read_named files new rest)
 
-  pub built : (plan : Outline) → call.is_run ≡ true → length files ≡ length (streams_of plan.nodes) → IsSafePlan plan.nodes
+  pub built : (plan : Outline) → call.task ≡ running → length files ≡ length (streams_of plan.nodes) → IsSafePlan plan.nodes
       → (HasToldPlan call → SpellsPlan (plan_bytes call) plan) → IsBuilt call
   built plan run long safe read = record {
     form = run;
@@ -231,7 +231,7 @@ module _ (call : Call) (files : List (List ℕ)) (mid new : FolderState) (named 
     ended_done first after opened stay = (
       at_end,
       record {
-        comes = refl;
+        comes = inl refl;
         opened_first = all_opened opened;
         others_stay = all_tried stay;
         built = λ past. is_built;
@@ -271,7 +271,7 @@ module _ (call : Call) (files : List (List ℕ)) (mid new : FolderState) (named 
     comes_in_run (RunFault stream) = inr ((let two : 1 < 2 + stream = omega arith in two), refl)
     comes_in_run (TooLarge stream) = refl
     comes_in_run (RunLimit node) = refl
-    comes_in_run WriteFailed = refl
+    comes_in_run WriteFailed = inl refl
     comes_in_run RunMemory = tt
     comes_in_run (RunCut (CoreLimit node)) = refl
     comes_in_run (RunCut CoreMemory) = tt

@@ -1,5 +1,5 @@
 -- A call that nothing hinders is run to its end.
-use Rattle.std.proofs.Common.{false, ◌≡◌, ◌<◌, ◌+◌, ℕ, zero, suc, ◌⊎◌, inl, inr, List, [], ◌∷◌, length, IsTrue, refl, ap, sym, ◌∙◌, subst, arith}
+use Rattle.std.proofs.Common.{Bool, false, ◌≡◌, ◌<◌, ◌+◌, ℕ, zero, suc, ◌⊎◌, inl, inr, List, [], ◌∷◌, length, IsTrue, refl, ap, sym, ◌∙◌, subst, arith}
 use Rattle.std.specs.Prelude.{slice_index_or}
 use Rattle.std.proofs.lemmas.Bool.{false≢true}
 use Rattle.std.proofs.lemmas.List.{get_or-map, length-map}
@@ -7,17 +7,17 @@ use Rattle.pj_io.specs.States.{FolderState, SinkState}
 use Rattle.pj_report.specs.declared.status.Status.{Status}
 use Rattle.pj_report.specs.declared.status.Status.TheVariants.{Done, Usage, OpenFault, ReadFault, PlanRefused, FileCount, Unsafe, WriteFault, NoMemory, Limit}
 use Rattle.pj_report.specs.declared.status.LimitOf.TheVariants.{Plan, Node, File}
-use Rattle.pj_alone.specs.Calls.{Call, job_if, job_with, IsTold, behind_first, file_names, operand, stream_files}
+use Rattle.pj_alone.specs.Calls.{nothing, running, checking, takes_plan, Task, Call, job_if, job_with, IsTold, behind_first, file_names, operand, stream_files}
 use Rattle.pj_feed.specs.Named.{AreTold}
 use Rattle.pj_run.specs.Jobs.{Job}
-use Rattle.pj_alone.specs.Completeness.{Completes, HasRoom, NoneRose}
+use Rattle.pj_alone.specs.Completeness.{Completes, NoneRose, RoomFor}
 use Rattle.pj_alone.specs.Refusals.{IsRefused}
-use Rattle.pj_alone.specs.Top.{BeyondLimit, HasFault, IsBuilt, IsTooLarge, IsUnopened, WriteFails}
-use Rattle.pj_alone.proofs.EarlyLaws.{IsOfPlan, refuses_never}
+use Rattle.pj_alone.specs.Top.{BeyondLimit, HasFault, IsBuilt, IsFit, IsTooLarge, IsUnopened, WriteFails}
+use Rattle.pj_alone.proofs.EarlyLaws.{IsOfPlan, fit_never}
 
 -- when each status comes that is neither done nor want of memory
 pub record HasCauses (answer : Status) (call : Call) (after : FolderState) (old new : SinkState) : Type 0 where
-  pub usage : answer ≡ Usage → call.is_run ≡ false
+  pub usage : answer ≡ Usage → takes_plan call.task ≡ false
   pub refused : (status : Status) → answer ≡ status → IsOfPlan status → IsRefused call status
   pub open_fault : (n : ℕ) → answer ≡ OpenFault n → IsUnopened call after n
   pub read_fault : (n : ℕ) → answer ≡ ReadFault n → HasFault call after n
@@ -36,9 +36,9 @@ at_stream : (names : List (List ℕ)) (stream : ℕ) → stream < length (behind
 at_stream [] stream lt = absurd (omega (arith, lt))
 at_stream (name ∷ names) stream lt = let e : 2 + stream ≡ suc (suc stream) = omega arith in ap (λ (m : ℕ). slice_index_or ([] ∷ name ∷ names) m []) e
 
-module _ (call : Call) (after : FolderState) (old new : SinkState) (told : IsTold call) (built : IsBuilt call) (none : NoneRose call after old new) (room : HasRoom call) where
+module _ (call : Call) (after : FolderState) (old new : SinkState) (told : IsTold call) (built : IsBuilt call) (none : NoneRose call after old new) (room : RoomFor running call) where
   never_refused : (status : Status) → IsRefused call status → ⊥
-  never_refused status refused = refuses_never call status built told.plan (refused.1 told.plan)
+  never_refused status refused = fit_never running call status built.form built told.plan (refused.1 told.plan)
 
   never_faulted : (n : ℕ) → HasFault call after n → ⊥
   never_faulted n fault = none.files n fault.first fault.last fault.rose
@@ -65,7 +65,7 @@ module _ (call : Call) (after : FolderState) (old new : SinkState) (told : IsTol
 
   completes : (answer : Status) → HasCauses answer call after old new → (answer ≡ Done) ⊎ (answer ≡ NoMemory)
   completes Done c = inl refl
-  completes Usage c = absurd (false≢true (sym (c.usage refl) ∙ built.form))
+  completes Usage c = absurd (false≢true (sym (c.usage refl) ∙ ap takes_plan built.form))
   completes (PlanRefused line why) c = absurd (never_refused (PlanRefused line why) (c.refused (PlanRefused line why) refl tt))
   completes (FileCount want got) c = absurd (never_refused (FileCount want got) (c.refused (FileCount want got) refl tt))
   completes (Unsafe node risk) c = absurd (never_refused (Unsafe node risk) (c.refused (Unsafe node risk) refl tt))
@@ -77,6 +77,36 @@ module _ (call : Call) (after : FolderState) (old new : SinkState) (told : IsTol
   completes (Limit (Node node)) c = absurd (never_beyond node (c.limit node refl))
   completes (Limit (File stream)) c = absurd (never_large stream (c.file_limit stream refl))
 
+-- a check of a safe plan
+module _ (call : Call) (after : FolderState) (old new : SinkState) (told : IsTold call) (print : Bool) (task : call.task ≡ checking print) (fit : IsFit (checking print) call) (none : NoneRose call after old new) where
+  check_refused : (status : Status) → IsRefused call status → ⊥
+  check_refused status refused = fit_never (checking print) call status task fit told.plan (refused.1 told.plan)
+
+  check_faulted : (n : ℕ) → HasFault call after n → ⊥
+  check_faulted n fault = none.files n fault.first fault.last fault.rose
+
+  check_built : IsBuilt call → ⊥
+  check_built built = let e : checking print ≡ running = sym task ∙ built.form in cc
+
+  checks : (answer : Status) → HasCauses answer call after old new → (answer ≡ Done) ⊎ (answer ≡ NoMemory)
+  checks Done c = inl refl
+  checks Usage c = absurd (false≢true (sym (c.usage refl) ∙ ap takes_plan task))
+  checks (PlanRefused line why) c = absurd (check_refused (PlanRefused line why) (c.refused (PlanRefused line why) refl tt))
+  checks (FileCount want got) c = absurd (check_refused (FileCount want got) (c.refused (FileCount want got) refl tt))
+  checks (Unsafe node risk) c = absurd (check_refused (Unsafe node risk) (c.refused (Unsafe node risk) refl tt))
+  checks (OpenFault n) c = absurd (check_faulted n (c.open_fault n refl).fault)
+  checks (ReadFault n) c = absurd (check_faulted n (c.read_fault n refl))
+  checks WriteFault c = absurd (none.sink (c.write_fault refl).0)
+  checks NoMemory c = inr refl
+  checks (Limit Plan) c = absurd (check_refused (Limit Plan) (c.refused (Limit Plan) refl tt))
+  checks (Limit (Node node)) c = absurd (check_built (c.limit node refl).built)
+  checks (Limit (File stream)) c = absurd (check_built (c.file_limit stream refl).built)
+
 -- where each other status has its cause, the call is done or memory was wanting
 pub completes_by : (answer : Status) (call : Call) (after : FolderState) (old new : SinkState) → HasCauses answer call after old new → Completes answer call after old new
-completes_by answer call after old new causes told built none room = completes call after old new told built none room answer causes
+completes_by answer call after old new causes told fit none room = go call.task refl fit room
+  where
+    go : (task : Task) → call.task ≡ task → IsFit task call → RoomFor task call → (answer ≡ Done) ⊎ (answer ≡ NoMemory)
+    go nothing is fit room = absurd fit
+    go running is built room = completes call after old new told built none room answer causes
+    go (checking print) is fit room = checks call after old new told print is fit none answer causes

@@ -1,12 +1,11 @@
 -- A call that has no plan to run: what is opened and written, and why.
-use Rattle.std.proofs.Common.{◌≡◌, ◌≤◌, ◌<◌, ℕ, zero, suc, true, false, inl, inr, List, [], ◌∷◌, length, take, slice_index_or, Result, Ok, Err, refl, ap, ap₂, sym, ◌∙◌, subst, arith}
+use Rattle.std.proofs.Common.{◌≡◌, ◌≤◌, ◌<◌, ℕ, zero, suc, true, false, inl, inr, List, [], ◌∷◌, length, take, slice_index_or, Option, Some, None, Result, Ok, Err, refl, ap, ap₂, sym, ◌∙◌, subst, arith}
 use Rattle.std.proofs.lemmas.Bool.{false≢true}
 use Rattle.pj_io.specs.Causes.{Rose}
 use Rattle.pj_io.specs.States.{FolderState, SinkState}
 use Rattle.pj_plan.specs.declared.fault.PlanFault.{PlanFault}
 use Rattle.pj_plan.specs.declared.node.PlanNode.{PlanNode}
 use Rattle.pj_plan.specs.declared.node.Outline.{Outline}
-use Rattle.pj_plan.specs.Nodes.{streams_of}
 use Rattle.pj_plan_text.specs.PlanRead.{plan_read}
 use Rattle.pj_safety.specs.declared.risk.PlanRisk.{PlanRisk}
 use Rattle.pj_safety.specs.Safety.{IsFirstRisk, IsSafePlan}
@@ -22,14 +21,15 @@ use Rattle.pj_events.specs.declared.events.Stop.TheVariants.{Limit as CoreLimit,
 use Rattle.pj_alone.specs.declared.stops.FileStop.TheVariants.{OpenFault as NotOpened, ReadFault as NotRead, TooLong, NoMemory as FileMemory}
 use Rattle.pj_alone.specs.declared.stops.PlanStop.{PlanStop}
 use Rattle.pj_alone.specs.declared.stops.PlanStop.TheVariants.{Usage as NoWords, File as PlanFile, Refused, FileCount as OtherCount, Unsafe as Stuck, NoMemory as PlanMemory}
-use Rattle.pj_alone.specs.Calls.{Call, HasToldPlan, operand, file_names, plan_bytes}
+use Rattle.pj_alone.specs.Calls.{nothing, running, checking, takes_plan, Task, Call, HasToldPlan, operand, file_names, files_asked, files_for, plan_bytes}
+use Rattle.pj_alone.specs.Plans.{plan_of}
 use Rattle.pj_feed.specs.Opened.{OpensFirst, OpensAtMost, StayOutside}
-use Rattle.pj_alone.specs.Refusals.{HasLines, IsRefused, IsRun, Refuses, RefusesBytes, RefusesPlan, RefusesRead, Unprepared}
+use Rattle.pj_alone.specs.Refusals.{HasLines, HasPlan, HasStreams, IsRefused, Refuses, RefusesBytes, RefusesPlan, RefusesRead, Unprepared}
 use Rattle.pj_alone.specs.Stops.{plan_status, refusal_text}
 use Rattle.pj_run.specs.Stops.{files_status}
 use Rattle.pj_alone.specs.Endings.{at_words, at_plan, at_opening, ending_of, ComesAt, EarlyLeaves, KeepsLast}
 use Rattle.pj_alone.specs.Promises.{Ends}
-use Rattle.pj_alone.specs.Top.{AnswersRefusal, HasFault, IsBuilt, IsPlanOf, IsUnopened}
+use Rattle.pj_alone.specs.Top.{AnswersRefusal, HasFault, IsBuilt, IsFit, IsUnopened}
 use Rattle.pj_report.specs.Report.{status_line}
 use Rattle.pj_report.specs.Written.{Delivered}
 use Rattle.pj_alone.proofs.Refusing.{read_as}
@@ -83,7 +83,7 @@ module _ (call : Call) (new : FolderState) (first after : SinkState) (stay : Sta
     },
   )
 
-  first_alone : IsRun call → OpensFirst 1 (operand call.names 1 ∷ []) call.folder new → OpensFirst 1 call.names call.folder new
+  first_alone : HasPlan call → OpensFirst 1 (operand call.names 1 ∷ []) call.folder new → OpensFirst 1 call.names call.folder new
   first_alone run opened = subst (λ (ns : List (List ℕ)). OpensFirst 1 ns call.folder new) (sym run.named) opened
 
   -- memory was wanting, before the plan's file was opened or behind
@@ -101,17 +101,17 @@ module _ (call : Call) (new : FolderState) (first after : SinkState) (stay : Sta
   ended_early (Refused fault) most u line = ended_at_plan (PlanRefused fault.line fault.why) refl (first_alone u.0 u.1.0) line
   ended_early (OtherCount want got) most u line = ended_at_plan (FileCount want got) refl (first_alone u.0 u.1.0) line
   ended_early (Stuck found) most u line =
-      ended_at_plan (Unsafe found.node found.risk) refl (first_alone u.0 u.1.0.0) (u.1.0.1, found.lines, λ told. (u.1.0.3 told).1, u.1.0.2.1, line)
+      ended_at_plan (Unsafe found.node found.risk) (inl refl) (first_alone u.0 u.1.0.0) (u.1.0.1, found.lines, λ told. (u.1.0.3 told).1, u.1.0.2.1, line)
   ended_early PlanMemory most (inl run) line = memory_ended most.0 most.1 most.2 line
   ended_early PlanMemory most (inr same) line = ended_at_words call NoMemory new first after tt same line
 
 -- ---- causes
 
 module _ (call : Call) (new : FolderState) where
-  some_operands : IsRun call → 1 ≤ length call.names
+  some_operands : HasPlan call → 1 ≤ length call.names
   some_operands run = let e = ap length run.named in omega (arith, e)
 
-  first_fault : IsRun call → Rose (call.folder.faults (operand call.names 1)) (new.faults (operand call.names 1)) → HasFault call new 1
+  first_fault : HasPlan call → Rose (call.folder.faults (operand call.names 1)) (new.faults (operand call.names 1)) → HasFault call new 1
   first_fault run rose = record { first = omega arith; last = some_operands run; rose = rose; later = λ more. absurd (omega (arith, more)) }
 
   pub fault_early : (stop : PlanStop) (n : ℕ) → Unprepared stop call new → plan_status stop ≡ ReadFault n → HasFault call new n
@@ -144,7 +144,7 @@ module _ (call : Call) (new : FolderState) where
 pub usage_alone : {T : Type 0} (result : Result T PlanStop) (stop : PlanStop) → result ≡ Err stop → result ≡ Err NoWords → stop ≡ NoWords
 usage_alone result stop is none = let e : Err stop ≡ Err NoWords = sym is ∙ none in cc e
 
-pub no_words : (stop : PlanStop) (call : Call) (after : FolderState) → Unprepared stop call after → plan_status stop ≡ Usage → call.is_run ≡ false
+pub no_words : (stop : PlanStop) (call : Call) (after : FolderState) → Unprepared stop call after → plan_status stop ≡ Usage → takes_plan call.task ≡ false
 no_words NoWords call after u e = u.0
 no_words (PlanFile NotOpened) call after u e = absurd (cc)
 no_words (PlanFile NotRead) call after u e = absurd (cc)
@@ -170,71 +170,77 @@ early_lines PlanMemory call after u = tt
 same_risk : (nodes : List PlanNode) (node other : ℕ) (risk own : PlanRisk) → IsFirstRisk nodes node risk → IsFirstRisk nodes other own → Unsafe node risk ≡ Unsafe other own
 same_risk nodes node other risk own f g = let same = risk_is_alone nodes node other risk own f g in ap₂ Unsafe same.0 same.1
 
-module _ (files : ℕ) (plan : Outline) where
-  count_alone : (want got : ℕ) (other : Status) → RefusesPlan (FileCount want got) files plan → RefusesPlan other files plan → FileCount want got ≡ other
-  count_alone want got Done a b = absurd b
-  count_alone want got Usage a b = absurd b
-  count_alone want got (PlanRefused line why) a b = absurd b
-  count_alone want got (FileCount w g) a b = ap₂ FileCount (a.1 ∙ sym b.1) (a.2 ∙ sym b.2)
-  count_alone want got (Unsafe node risk) a b = absurd (a.0 b.0)
-  count_alone want got (OpenFault n) a b = absurd b
-  count_alone want got (ReadFault n) a b = absurd b
-  count_alone want got WriteFault a b = absurd b
-  count_alone want got NoMemory a b = absurd b
-  count_alone want got (Limit what) a b = absurd b
+module _ (plan : Outline) where
+  count_alone : (files : Option ℕ) (want got : ℕ) (other : Status) → RefusesPlan (FileCount want got) files plan → RefusesPlan other files plan → FileCount want got ≡ other
+  count_alone None want got other a b = absurd a
+  count_alone (Some files) want got Done a b = absurd b
+  count_alone (Some files) want got Usage a b = absurd b
+  count_alone (Some files) want got (PlanRefused line why) a b = absurd b
+  count_alone (Some files) want got (FileCount w g) a b = ap₂ FileCount (a.1 ∙ sym b.1) (a.2 ∙ sym b.2)
+  count_alone (Some files) want got (Unsafe node risk) a b = absurd (a.0 b.0)
+  count_alone (Some files) want got (OpenFault n) a b = absurd b
+  count_alone (Some files) want got (ReadFault n) a b = absurd b
+  count_alone (Some files) want got WriteFault a b = absurd b
+  count_alone (Some files) want got NoMemory a b = absurd b
+  count_alone (Some files) want got (Limit what) a b = absurd b
 
-  unsafe_alone : (node : ℕ) (risk : PlanRisk) (other : Status) → RefusesPlan (Unsafe node risk) files plan → RefusesPlan other files plan → Unsafe node risk ≡ other
-  unsafe_alone node risk Done a b = absurd b
-  unsafe_alone node risk Usage a b = absurd b
-  unsafe_alone node risk (PlanRefused line why) a b = absurd b
-  unsafe_alone node risk (FileCount w g) a b = absurd (b.0 a.0)
-  unsafe_alone node risk (Unsafe n own) a b = same_risk plan.nodes node n risk own a.1 b.1
-  unsafe_alone node risk (OpenFault n) a b = absurd b
-  unsafe_alone node risk (ReadFault n) a b = absurd b
-  unsafe_alone node risk WriteFault a b = absurd b
-  unsafe_alone node risk NoMemory a b = absurd b
-  unsafe_alone node risk (Limit what) a b = absurd b
+  -- a plan with a stream for each file is not refused for their number
+  never_count : (files : Option ℕ) (want got : ℕ) → HasStreams files plan → RefusesPlan (FileCount want got) files plan → ⊥
+  never_count None want got each a = a
+  never_count (Some files) want got each a = a.0 each
 
-  plan_alone : (one other : Status) → RefusesPlan one files plan → RefusesPlan other files plan → one ≡ other
-  plan_alone Done other a b = absurd a
-  plan_alone Usage other a b = absurd a
-  plan_alone (PlanRefused line why) other a b = absurd a
-  plan_alone (FileCount want got) other a b = count_alone want got other a b
-  plan_alone (Unsafe node risk) other a b = unsafe_alone node risk other a b
-  plan_alone (OpenFault n) other a b = absurd a
-  plan_alone (ReadFault n) other a b = absurd a
-  plan_alone WriteFault other a b = absurd a
-  plan_alone NoMemory other a b = absurd a
-  plan_alone (Limit what) other a b = absurd a
+  unsafe_alone : (files : Option ℕ) (node : ℕ) (risk : PlanRisk) (other : Status) → RefusesPlan (Unsafe node risk) files plan → RefusesPlan other files plan → Unsafe node risk ≡ other
+  unsafe_alone files node risk Done a b = absurd b
+  unsafe_alone files node risk Usage a b = absurd b
+  unsafe_alone files node risk (PlanRefused line why) a b = absurd b
+  unsafe_alone files node risk (FileCount w g) a b = absurd (never_count files w g a.0 b)
+  unsafe_alone files node risk (Unsafe n own) a b = same_risk plan.nodes node n risk own a.1 b.1
+  unsafe_alone files node risk (OpenFault n) a b = absurd b
+  unsafe_alone files node risk (ReadFault n) a b = absurd b
+  unsafe_alone files node risk WriteFault a b = absurd b
+  unsafe_alone files node risk NoMemory a b = absurd b
+  unsafe_alone files node risk (Limit what) a b = absurd b
 
-  -- a safe plan of the right number of streams is not refused
-  never_fit : (status : Status) → length (streams_of plan.nodes) ≡ files → IsSafePlan plan.nodes → RefusesPlan status files plan → ⊥
-  never_fit Done count safe a = a
-  never_fit Usage count safe a = a
-  never_fit (PlanRefused line why) count safe a = a
-  never_fit (FileCount want got) count safe a = a.0 count
-  never_fit (Unsafe node risk) count safe a = risk_is_unsafe plan.nodes node risk a.1 safe
-  never_fit (OpenFault n) count safe a = a
-  never_fit (ReadFault n) count safe a = a
-  never_fit WriteFault count safe a = a
-  never_fit NoMemory count safe a = a
-  never_fit (Limit what) count safe a = a
+  plan_alone : (files : Option ℕ) (one other : Status) → RefusesPlan one files plan → RefusesPlan other files plan → one ≡ other
+  plan_alone files Done other a b = absurd a
+  plan_alone files Usage other a b = absurd a
+  plan_alone files (PlanRefused line why) other a b = absurd a
+  plan_alone files (FileCount want got) other a b = count_alone files want got other a b
+  plan_alone files (Unsafe node risk) other a b = unsafe_alone files node risk other a b
+  plan_alone files (OpenFault n) other a b = absurd a
+  plan_alone files (ReadFault n) other a b = absurd a
+  plan_alone files WriteFault other a b = absurd a
+  plan_alone files NoMemory other a b = absurd a
+  plan_alone files (Limit what) other a b = absurd a
 
-read_alone : (files : ℕ) (result : Result Outline PlanFault) (one other : Status) → RefusesRead one files result → RefusesRead other files result → one ≡ other
-read_alone files (Ok plan) one other a b = plan_alone files plan one other a b
+  -- a safe plan with a stream for each file is not refused
+  never_fit : (files : Option ℕ) (status : Status) → HasStreams files plan → IsSafePlan plan.nodes → RefusesPlan status files plan → ⊥
+  never_fit files Done each safe a = a
+  never_fit files Usage each safe a = a
+  never_fit files (PlanRefused line why) each safe a = a
+  never_fit files (FileCount want got) each safe a = never_count files want got each a
+  never_fit files (Unsafe node risk) each safe a = risk_is_unsafe plan.nodes node risk a.1 safe
+  never_fit files (OpenFault n) each safe a = a
+  never_fit files (ReadFault n) each safe a = a
+  never_fit files WriteFault each safe a = a
+  never_fit files NoMemory each safe a = a
+  never_fit files (Limit what) each safe a = a
+
+read_alone : (files : Option ℕ) (result : Result Outline PlanFault) (one other : Status) → RefusesRead one files result → RefusesRead other files result → one ≡ other
+read_alone files (Ok plan) one other a b = plan_alone plan files one other a b
 read_alone files (Err fault) one other a b = a ∙ sym b
 
-bytes_alone : (files : ℕ) (bytes : List ℕ) (one other : Status) → RefusesBytes one files bytes → RefusesBytes other files bytes → one ≡ other
+bytes_alone : (files : Option ℕ) (bytes : List ℕ) (one other : Status) → RefusesBytes one files bytes → RefusesBytes other files bytes → one ≡ other
 bytes_alone files bytes one other (inl a) (inl b) = a.1 ∙ sym b.1
 bytes_alone files bytes one other (inl a) (inr b) = absurd (let more = a.0 in let few = b.0 in omega (arith, more, few))
 bytes_alone files bytes one other (inr a) (inl b) = absurd (let few = a.0 in let more = b.0 in omega (arith, more, few))
 bytes_alone files bytes one other (inr a) (inr b) = read_alone files (plan_read bytes) one other a.1 b.1
 
-refused_alone : (call : Call) (one other : Status) → Refuses call one → Refuses call other → one ≡ other
+pub refused_alone : (call : Call) (one other : Status) → Refuses call one → Refuses call other → one ≡ other
 refused_alone call one other (inl a) (inl b) = a.1 ∙ sym b.1
 refused_alone call one other (inl a) (inr b) = absurd (false≢true (sym a.0 ∙ b.0))
 refused_alone call one other (inr a) (inl b) = absurd (false≢true (sym b.0 ∙ a.0))
-refused_alone call one other (inr a) (inr b) = bytes_alone (length (file_names call)) (plan_bytes call) one other a.1 b.1
+refused_alone call one other (inr a) (inr b) = bytes_alone (files_asked call) (plan_bytes call) one other a.1 b.1
 
 -- ---- refusals
 
@@ -254,19 +260,19 @@ IsOfPlan (Limit (Node node)) = ⊥
 IsOfPlan (Limit (File stream)) = ⊥
 
 -- how it is known that the bytes are refused so
-too_long : (files : ℕ) (bytes : List ℕ) → 1048576 < length bytes → RefusesBytes (Limit Plan) files bytes
+too_long : (files : Option ℕ) (bytes : List ℕ) → 1048576 < length bytes → RefusesBytes (Limit Plan) files bytes
 too_long files bytes more = inl (more, refl)
 
-has_fault : (files : ℕ) (bytes : List ℕ) (fault : PlanFault) → (length bytes ≤ 1048576) × (plan_read bytes ≡ Err fault) → RefusesBytes (PlanRefused fault.line fault.why) files bytes
+has_fault : (files : Option ℕ) (bytes : List ℕ) (fault : PlanFault) → (length bytes ≤ 1048576) × (plan_read bytes ≡ Err fault) → RefusesBytes (PlanRefused fault.line fault.why) files bytes
 has_fault files bytes fault read = inr (read.0, subst (RefusesRead (PlanRefused fault.line fault.why) files) (sym read.1) refl)
 
-is_unfit : (status : Status) (files : ℕ) (bytes : List ℕ) (plan : Outline) → RefusesPlan status files plan → (length bytes ≤ 1048576) × (plan_read bytes ≡ Ok plan) → RefusesBytes status files bytes
+pub is_unfit : (status : Status) (files : Option ℕ) (bytes : List ℕ) (plan : Outline) → RefusesPlan status files plan → (length bytes ≤ 1048576) × (plan_read bytes ≡ Ok plan) → RefusesBytes status files bytes
 is_unfit status files bytes plan refuses read = inr (read.0, subst (RefusesRead status files) (sym read.1) refuses)
 
--- the status of a call of the right form
-module _ (call : Call) (run : call.is_run ≡ true) where
+-- the status of a call that names a plan
+module _ (call : Call) (run : takes_plan call.task ≡ true) where
   abbrev of_bytes : Status → Type 0
-  of_bytes status = HasToldPlan call → RefusesBytes status (length (file_names call)) (plan_bytes call)
+  of_bytes status = HasToldPlan call → RefusesBytes status (files_asked call) (plan_bytes call)
 
   refused_so : (status other : Status) → of_bytes status → status ≡ other → IsRefused call other
   refused_so status other is same = subst (IsRefused call) same (run, λ told. inr (run, is told))
@@ -278,12 +284,12 @@ pub refused_early : (stop : PlanStop) (call : Call) (after : FolderState) (statu
 refused_early NoWords call after status u e p = absurd (subst IsOfPlan (sym e) p)
 refused_early (PlanFile NotOpened) call after status u e p = absurd (subst IsOfPlan (sym e) p)
 refused_early (PlanFile NotRead) call after status u e p = absurd (subst IsOfPlan (sym e) p)
-refused_early (PlanFile TooLong) call after status u e p = refused_so call u.0.form (Limit Plan) status (λ told. too_long (length (file_names call)) (plan_bytes call) (u.1.1 told)) e
+refused_early (PlanFile TooLong) call after status u e p = refused_so call u.0.takes (Limit Plan) status (λ told. too_long (files_asked call) (plan_bytes call) (u.1.1 told)) e
 refused_early (PlanFile FileMemory) call after status u e p = absurd (subst IsOfPlan (sym e) p)
-refused_early (Refused fault) call after status u e p = refused_so call u.0.form (PlanRefused fault.line fault.why) status (λ told. has_fault (length (file_names call)) (plan_bytes call) fault (u.1.1 told)) e
-refused_early (OtherCount want got) call after status u e p = refused_so call u.0.form (FileCount want got) status (λ told. is_unfit (FileCount want got) (length (file_names call)) (plan_bytes call) u.1.1 u.1.2 (u.1.3 told)) e
+refused_early (Refused fault) call after status u e p = refused_so call u.0.takes (PlanRefused fault.line fault.why) status (λ told. has_fault (files_asked call) (plan_bytes call) fault (u.1.1 told)) e
+refused_early (OtherCount want got) call after status u e p = refused_so call u.0.takes (FileCount want got) status (λ told. is_unfit (FileCount want got) (files_asked call) (plan_bytes call) u.1.1 u.1.2 (u.1.3 told)) e
 refused_early (Stuck found) call after status u e p =
-    refused_so call u.0.form (Unsafe found.node found.risk) status (λ told. is_unfit (Unsafe found.node found.risk) (length (file_names call)) (plan_bytes call) u.1.0.1 u.1.0.2.0 (u.1.0.3 told)) e
+    refused_so call u.0.takes (Unsafe found.node found.risk) status (λ told. is_unfit (Unsafe found.node found.risk) (files_asked call) (plan_bytes call) u.1.0.1 u.1.0.2.0 (u.1.0.3 told)) e
 refused_early PlanMemory call after status u e p = absurd (subst IsOfPlan (sym e) p)
 
 -- a status that a run alone has
@@ -338,24 +344,33 @@ pub answers_early : (stop : PlanStop) (call : Call) (after : FolderState) → Un
 answers_early NoWords call after u = λ told status refuses. inl (refused_alone call Usage status (inl (u.0, refl)) refuses)
 answers_early (PlanFile NotOpened) call after u = λ told status refuses. inr (inr (inl refl))
 answers_early (PlanFile NotRead) call after u = λ told status refuses. inr (inr (inr refl))
-answers_early (PlanFile TooLong) call after u = answers_so call u.0.form (Limit Plan) (λ told. too_long (length (file_names call)) (plan_bytes call) (u.1.1 told))
+answers_early (PlanFile TooLong) call after u = answers_so call u.0.takes (Limit Plan) (λ told. too_long (files_asked call) (plan_bytes call) (u.1.1 told))
 answers_early (PlanFile FileMemory) call after u = λ told status refuses. inr (inl refl)
-answers_early (Refused fault) call after u = answers_so call u.0.form (PlanRefused fault.line fault.why) (λ told. has_fault (length (file_names call)) (plan_bytes call) fault (u.1.1 told))
-answers_early (OtherCount want got) call after u = answers_so call u.0.form (FileCount want got) (λ told. is_unfit (FileCount want got) (length (file_names call)) (plan_bytes call) u.1.1 u.1.2 (u.1.3 told))
+answers_early (Refused fault) call after u = answers_so call u.0.takes (PlanRefused fault.line fault.why) (λ told. has_fault (files_asked call) (plan_bytes call) fault (u.1.1 told))
+answers_early (OtherCount want got) call after u = answers_so call u.0.takes (FileCount want got) (λ told. is_unfit (FileCount want got) (files_asked call) (plan_bytes call) u.1.1 u.1.2 (u.1.3 told))
 answers_early (Stuck found) call after u =
-    answers_so call u.0.form (Unsafe found.node found.risk) (λ told. is_unfit (Unsafe found.node found.risk) (length (file_names call)) (plan_bytes call) u.1.0.1 u.1.0.2.0 (u.1.0.3 told))
+    answers_so call u.0.takes (Unsafe found.node found.risk) (λ told. is_unfit (Unsafe found.node found.risk) (files_asked call) (plan_bytes call) u.1.0.1 u.1.0.2.0 (u.1.0.3 told))
 answers_early PlanMemory call after u = λ told status refuses. inr (inl refl)
 
--- where there is something to run, nothing is refused
-bytes_never : (files : ℕ) (bytes : List ℕ) (status : Status) → IsPlanOf files bytes → RefusesBytes status files bytes → ⊥
-bytes_never files bytes status is (inl long) = let few = is.0 in let more = long.0 in omega (arith, few, more)
-bytes_never files bytes status is (inr read) =
-    let plan = is.1.0 in
-    never_fit files plan status is.1.2 is.1.3 (subst (RefusesRead status files) (read_as bytes plan is.1.1) read.1)
+-- where nothing is refused
+bytes_never : (files : Option ℕ) (bytes : List ℕ) (status : Status) (plan : Outline) → length bytes ≤ 1048576 → plan_of bytes ≡ Some plan → HasStreams files plan → IsSafePlan plan.nodes → RefusesBytes status files bytes → ⊥
+bytes_never files bytes status plan few is each safe (inl long) = let more = long.0 in omega (arith, few, more)
+bytes_never files bytes status plan few is each safe (inr read) = never_fit plan files status each safe (subst (RefusesRead status files) (read_as bytes plan is) read.1)
 
-pub refuses_never : (call : Call) (status : Status) → IsBuilt call → HasToldPlan call → Refuses call status → ⊥
-refuses_never call status built told (inl not) = false≢true (sym not.0 ∙ built.form)
-refuses_never call status built told (inr refuses) = bytes_never (length (file_names call)) (plan_bytes call) status (built.plan told) refuses.1
+-- how many files are asked for
+pub asked_by : (call : Call) (task : Task) → call.task ≡ task → files_asked call ≡ files_for task (length (file_names call))
+asked_by call task is = ap (λ (t : Task). files_for t (length (file_names call))) is
+
+pub fit_never : (task : Task) (call : Call) (status : Status) → call.task ≡ task → IsFit task call → HasToldPlan call → Refuses call status → ⊥
+fit_never nothing call status is fit told refuses = absurd fit
+fit_never running call status is fit told (inl not) = false≢true (sym not.0 ∙ ap takes_plan is)
+fit_never running call status is fit told (inr refuses) =
+    let p = fit.plan told in
+    bytes_never (Some (length (file_names call))) (plan_bytes call) status p.1.0 p.0 p.1.1 p.1.2 p.1.3 (subst (λ (files : Option ℕ). RefusesBytes status files (plan_bytes call)) (asked_by call running is) refuses.1)
+fit_never (checking print) call status is fit told (inl not) = false≢true (sym not.0 ∙ ap takes_plan is)
+fit_never (checking print) call status is fit told (inr refuses) =
+    let p = fit told in
+    bytes_never None (plan_bytes call) status p.1.0 p.0 p.1.1 tt p.1.2 (subst (λ (files : Option ℕ). RefusesBytes status files (plan_bytes call)) (asked_by call (checking print) is) refuses.1)
 
 pub answers_built : (call : Call) (answer : Status) → IsBuilt call → AnswersRefusal answer call
-answers_built call answer built told status refuses = absurd (refuses_never call status built told refuses)
+answers_built call answer built told status refuses = absurd (fit_never running call status built.form built told refuses)

@@ -6,3 +6,4 @@ pub mod NameLaws
 pub mod Refusing
 pub mod RunLaws
 pub mod StaysLaws
+pub mod VerdictLaws

@@ -1,5 +1,5 @@
 -- Why there is no plan to run, from the plan of the file up to the words.
-use Rattle.std.proofs.Common.{◌≡◌, ◌≤◌, inl, inr, ℕ, Bool, List, [], ◌∷◌, length, Option, Some, None, Result, Ok, Err, IsTrue, refl, ap, sym, ◌∙◌, subst}
+use Rattle.std.proofs.Common.{◌≡◌, ◌≤◌, inl, ℕ, Bool, List, [], ◌∷◌, length, Option, Some, Result, Ok, Err, IsTrue, refl, ap, sym, ◌∙◌, subst}
 use Rattle.pj_io.specs.Folders.{SameElsewhere}
 use Rattle.pj_io.specs.States.{FolderState}
 use Rattle.pj_plan.specs.declared.fault.PlanFault.{PlanFault}
@@ -20,7 +20,7 @@ use Rattle.pj_alone.specs.declared.stops.PlanStop.TheVariants.{Usage as NoWords,
 use Rattle.pj_feed.specs.Opened.{OpensFirst, StayOutside}
 use Rattle.pj_feed.proofs.Outside.{stay_elsewhere}
 use Rattle.pj_run.specs.PlanNames.{HasShortNames}
-use Rattle.pj_alone.specs.Plans.{outline_in, plan_of, plan_if}
+use Rattle.pj_alone.specs.Plans.{outline_in, plan_of, plan_if, SpellsPlan}
 use Rattle.pj_alone.specs.Refusals.{BytesRefused, FileCause, FileOpens, HasLines, PlanCause, PlanUnfit}
 use Rattle.pj_run.specs.Runs.{IsNewCore}
 use Rattle.pj_safe_core.proofs.Certified.{run_certified}
@@ -51,6 +51,10 @@ new_core core plan certs trace limit fresh sound made found are =
 pub spelled : (bytes : List ℕ) (plan : Outline) (core : CoreState) → plan_read bytes ≡ Ok plan → outline_in core ≡ plan → plan_of bytes ≡ Some (outline_in core)
 spelled bytes plan core read same = ap plan_if read ∙ ap (λ (p : Outline). Some p) (sym same)
 
+-- where the folder tells the bytes that were read, they spell this plan
+pub spelled_plan : (bytes contents : List ℕ) (plan : Outline) → bytes ≡ contents → length bytes ≤ 1048576 → plan_read bytes ≡ Ok plan → SpellsPlan contents plan
+spelled_plan bytes contents plan same few read = subst (λ (bs : List ℕ). SpellsPlan bs plan) same (ap plan_if read, few)
+
 -- bytes that spell a plan are read as it
 pub read_as : (bytes : List ℕ) (plan : Outline) → plan_of bytes ≡ Some plan → plan_read bytes ≡ Ok plan
 read_as bytes plan e = go (plan_read bytes) refl e
@@ -59,7 +63,7 @@ read_as bytes plan e = go (plan_read bytes) refl e
     go (Ok p) is q = let same : p ≡ plan = cc in is ∙ ap Ok same
     go (Err fault) is q = absurd (cc)
 
-pub unfit_bytes : (stop : PlanStop) (files : ℕ) (bytes : List ℕ) (plan : Outline) → plan_read bytes ≡ Ok plan → PlanUnfit stop files plan → BytesRefused stop files bytes
+pub unfit_bytes : (stop : PlanStop) (files : Option ℕ) (bytes : List ℕ) (plan : Outline) → plan_read bytes ≡ Ok plan → PlanUnfit stop files plan → BytesRefused stop files bytes
 unfit_bytes NoWords files bytes plan read u = absurd u
 unfit_bytes (PlanFile stop) files bytes plan read u = absurd u
 unfit_bytes (Refused fault) files bytes plan read u = absurd u
@@ -69,13 +73,13 @@ unfit_bytes PlanMemory files bytes plan read u = tt
 
 -- ---- the plan's file
 
-pub file_cause : (stop : FileStop) (files : ℕ) (name : List ℕ) (old new : FolderState) → FileCause stop name old new → FileOpens stop name old new → PlanCause (PlanFile stop) files name old new
+pub file_cause : (stop : FileStop) (files : Option ℕ) (name : List ℕ) (old new : FolderState) → FileCause stop name old new → FileOpens stop name old new → PlanCause (PlanFile stop) files name old new
 file_cause NotOpened files name old new cause opens = (opens.0, cause, opens.1)
 file_cause NotRead files name old new cause opens = (opens, cause)
 file_cause TooLong files name old new cause opens = (opens, cause)
 file_cause FileMemory files name old new cause opens = tt
 
-module _ (files : ℕ) (name bytes : List ℕ) (old new : FolderState) (is : IsTrue (old.told name) → bytes ≡ old.contents name) (few : length bytes ≤ 1048576) (opened : OpensFirst 1 (name ∷ []) old new) where
+module _ (files : Option ℕ) (name bytes : List ℕ) (old new : FolderState) (is : IsTrue (old.told name) → bytes ≡ old.contents name) (few : length bytes ≤ 1048576) (opened : OpensFirst 1 (name ∷ []) old new) where
   -- what the bytes that were read are is so of those that the folder tells
   told_so : (result : Result Outline PlanFault) → plan_read bytes ≡ result → IsTrue (old.told name) → (length (old.contents name) ≤ 1048576) × (plan_read (old.contents name) ≡ result)
   told_so result read told = subst (λ (bs : List ℕ). (length bs ≤ 1048576) × (plan_read bs ≡ result)) (is told) (few, read)

@@ -1,5 +1,5 @@
 -- What is asked for, over a folder.
-use Rattle.std.specs.Prelude.{ℕ, Bool, true, false, List, [], ◌∷◌, Option, Some, None, IsTrue, slice_index_or}
+use Rattle.std.specs.Prelude.{ℕ, Bool, true, false, List, [], ◌∷◌, length, Option, Some, None, IsTrue, slice_index_or}
 use Rattle.pj_io.specs.States.{FolderState}
 use Rattle.pj_plan.specs.declared.node.Outline.{Outline}
 use Rattle.pj_plan.specs.declared.node.PlanNode.{PlanNode}
@@ -15,17 +15,32 @@ use Rattle.pj_alone.specs.Plans.{plan_of}
 
 -- ---- a call over a folder
 
--- A call: whether it is a run; the operands, which are the plan's name and those of the streams' files; how it is to be
--- run; and what the folder tells of itself before the call
+-- What is asked for
+pub data Task : Type 0 where
+  -- nothing that there is
+  nothing : Task
+  -- a run of a plan over files
+  running : Task
+  -- a check of a plan, which is also printed or not
+  checking : Bool → Task
+
+-- it names a plan
+abbrev pub takes_plan : Task → Bool
+takes_plan nothing = false
+takes_plan running = true
+takes_plan (checking print) = true
+
+-- A call: what is asked for; the operands, which are the plan's name and those of the streams' files; how a run is to be made; and
+-- what the folder tells of itself before the call
 pub record Call : Type 0 where
-  pub is_run : Bool
+  pub task : Task
   pub names : List (List ℕ)
   pub options : Options
   pub folder : FolderState
 
 -- what a request wants: the same without the folder
 pub record Wanted : Type 0 where
-  pub is_run : Bool
+  pub task : Task
   pub names : List (List ℕ)
   pub options : Options
 
@@ -34,11 +49,18 @@ form_by true = Sorted
 form_by false = AsTheyCome
 
 abbrev pub run_wanted : List ℕ → List (List ℕ) → Options → Wanted
-run_wanted plan files options = record { is_run = true; names = plan ∷ files; options = options }
+run_wanted plan files options = record { task = running; names = plan ∷ files; options = options }
+
+-- of what is no run
+abbrev pub no_options : Options
+no_options = record { trace = false; limit = 0; form = AsTheyCome; check = false }
+
+abbrev pub check_wanted : List ℕ → Bool → Wanted
+check_wanted plan print = record { task = checking print; names = plan ∷ []; options = no_options }
 
 -- nothing that there is
 abbrev pub nothing_wanted : Wanted
-nothing_wanted = record { is_run = false; names = []; options = record { trace = false; limit = 0; form = AsTheyCome; check = false } }
+nothing_wanted = record { task = nothing; names = []; options = no_options }
 
 -- other requests are not there yet
 abbrev pub wanted : Option Request → Wanted
@@ -46,11 +68,11 @@ wanted None = nothing_wanted
 wanted (Some (Run plan files workers sorted trace check limit)) =
     run_wanted plan files (record { trace = trace; limit = limit; form = form_by sorted; check = check })
 wanted (Some (Replay plan script files trace limit)) = nothing_wanted
-wanted (Some (Check plan print)) = nothing_wanted
+wanted (Some (Check plan print)) = check_wanted plan print
 wanted (Some (Make seed count)) = nothing_wanted
 
 abbrev pub call_by : Wanted → FolderState → Call
-call_by want folder = record { is_run = want.is_run; names = want.names; options = want.options; folder = folder }
+call_by want folder = record { task = want.task; names = want.names; options = want.options; folder = folder }
 
 -- what a request asks for
 abbrev pub call_for : Request → FolderState → Call
@@ -70,6 +92,15 @@ behind_first (name ∷ names) = names
 -- the names of the streams' files
 abbrev pub file_names : Call → List (List ℕ)
 file_names call = behind_first call.names
+
+-- how many files a task has, where the plan is to have a stream for each
+abbrev pub files_for : Task → ℕ → Option ℕ
+files_for nothing count = None
+files_for running count = Some count
+files_for (checking print) count = None
+
+abbrev pub files_asked : Call → Option ℕ
+files_asked call = files_for call.task (length (file_names call))
 
 -- the bytes of the plan's file, and those of the streams' files
 abbrev pub plan_bytes : Call → List ℕ

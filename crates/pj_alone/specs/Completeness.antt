@@ -1,13 +1,13 @@
--- When a call is run to its end.
-use Rattle.std.specs.Prelude.{ℕ, ◌≡◌, ◌<◌, ◌≤◌, ◌^◌, ◌⊎◌, List, [], length, Some, slice_index_or}
+-- When a call is done.
+use Rattle.std.specs.Prelude.{ℕ, ◌≡◌, ◌<◌, ◌≤◌, ◌^◌, ◌⊎◌, ⊤, List, [], length, Some, slice_index_or}
 use Rattle.pj_io.specs.Causes.{Rose}
 use Rattle.pj_io.specs.States.{FolderState, SinkState}
 use Rattle.pj_report.specs.declared.status.Status.{Status}
 use Rattle.pj_report.specs.declared.status.Status.TheVariants.{Done, NoMemory}
-use Rattle.pj_alone.specs.Calls.{Call, job_of, IsTold, operand, stream_files}
+use Rattle.pj_alone.specs.Calls.{nothing, running, checking, Task, Call, job_of, IsTold, operand, stream_files}
 use Rattle.pj_run.specs.Jobs.{Job}
 use Rattle.pj_run.specs.Runs.{elements_to}
-use Rattle.pj_alone.specs.Top.{IsBuilt}
+use Rattle.pj_alone.specs.Top.{IsFit}
 use Rattle.pj_algebra.specs.Answers.{IsCounted}
 
 -- no count of faults rose: not that of an operand's name, and not the sink's
@@ -21,12 +21,17 @@ pub record IsWithinLimits (job : Job) (files : List (List ℕ)) : Type 0 where
   pub bytes : (stream : ℕ) → stream < length files → length (slice_index_or files stream []) < 2 ^ 40
   pub elements : (node : ℕ) → IsCounted job.nodes node → elements_to job files node ≤ job.limit
 
--- where the call is told, its plan and its files go beyond no limit
-abbrev pub HasRoom : Call → Type 0
-HasRoom call = (job : Job) → job_of call ≡ Some job → IsWithinLimits job (stream_files call)
+-- where the call is told, the plan and the files of a run go beyond no limit
+abbrev pub RoomFor : Task → Call → Type 0
+RoomFor nothing call = ⊤
+RoomFor running call = (job : Job) → job_of call ≡ Some job → IsWithinLimits job (stream_files call)
+RoomFor (checking print) call = ⊤
 
--- Where the call is told: words of a run, a safe plan of few enough bytes with a stream for each file, counts of faults that do not
--- rise and limits that are not gone beyond give a run that is done, or want of memory
+abbrev pub HasRoom : Call → Type 0
+HasRoom call = RoomFor call.task call
+
+-- Where the call is told: a run of a safe plan of few enough bytes with a stream for each file, or the check of a safe one, counts of
+-- faults that do not rise and limits that are not gone beyond give a call that is done, or want of memory
 abbrev pub Completes : Status → Call → FolderState → SinkState → SinkState → Type 0
 Completes answer call after old new =
-    IsTold call → IsBuilt call → NoneRose call after old new → HasRoom call → (answer ≡ Done) ⊎ (answer ≡ NoMemory)
+    IsTold call → IsFit call.task call → NoneRose call after old new → HasRoom call → (answer ≡ Done) ⊎ (answer ≡ NoMemory)

@@ -1,11 +1,14 @@
 -- How a call ended: how far it came, and what it left of the folder and in the sink.
-use Rattle.std.specs.Prelude.{◌≡◌, ◌<◌, ◌≤◌, ◌+◌, ℕ, ◌⊎◌, ⊤, List, [], length, take, Ok, Some, IsTrue, slice_index_or}
+use Rattle.std.specs.List.{concat}
+use Rattle.std.specs.Prelude.{Bool, ◌++◌, ◌≡◌, ◌<◌, ◌≤◌, ◌+◌, ℕ, ◌⊎◌, ⊤, List, [], length, take, Ok, Some, IsTrue, slice_index_or}
 use Rattle.pj_plan.specs.declared.node.Outline.{Outline}
 use Rattle.pj_plan.specs.declared.node.PlanNode.{PlanNode}
 use Rattle.pj_plan.specs.Nodes.{streams_in}
 use Rattle.pj_plan.specs.Canonical.{node_name}
 use Rattle.pj_plan_text.specs.PlanRead.{plan_read}
+use Rattle.pj_judge.specs.Checks.{check_lines}
 use Rattle.pj_judge.specs.Judgments.{AreUnsafeLines}
+use Rattle.pj_safety.specs.Safety.{IsFirstRisk, IsSafePlan}
 use Rattle.pj_safety.specs.declared.risk.PlanRisk.{PlanRisk}
 use Rattle.pj_io.specs.Causes.{Rose}
 use Rattle.pj_io.specs.States.{FolderState, SinkState}
@@ -20,7 +23,8 @@ use Rattle.pj_report.specs.Written.{flat, WholeLines, FrontOf, Delivered, holdin
 use Rattle.pj_run.specs.Ends.{EndsBefore, EndsAtBytes, EndsAtLimit, EndsCut, ArrivedOf}
 use Rattle.pj_run.specs.Jobs.{Job}
 use Rattle.pj_run.specs.Runs.{run_lines}
-use Rattle.pj_alone.specs.Calls.{Call, job_of, IsTold, HasToldPlan, operand, file_names, plan_bytes, stream_files}
+use Rattle.pj_alone.specs.Calls.{checking, Call, job_of, IsTold, HasToldPlan, operand, file_names, plan_bytes, stream_files}
+use Rattle.pj_alone.specs.Plans.{SpellsPlan}
 use Rattle.pj_alone.specs.Top.{IsBuilt}
 
 -- A call and the status that it answers, what the folder tells of itself behind it, and what the sink told before and tells behind
@@ -42,6 +46,8 @@ pub data Stage : Type 0 where
   at_words : Stage
   -- to the plan, whose file was opened
   at_plan : Stage
+  -- to the verdict on the plan, which was to be checked
+  at_verdict : Stage
   -- to the opening of the files: so many operands' were opened, and the next one's was not
   at_opening : ℕ → Stage
   -- to the run, all files being open
@@ -53,6 +59,7 @@ pub data Stage : Type 0 where
 abbrev pub opened_at : Stage → Call → ℕ
 opened_at at_words call = 0
 opened_at at_plan call = 1
+opened_at at_verdict call = 1
 opened_at (at_opening count) call = count
 opened_at in_run call = length call.names
 opened_at at_end call = length call.names
@@ -61,6 +68,7 @@ opened_at at_end call = length call.names
 abbrev pub tried_at : Stage → Call → ℕ
 tried_at at_words call = 0
 tried_at at_plan call = 1
+tried_at at_verdict call = 1
 tried_at (at_opening count) call = count + 1
 tried_at in_run call = length call.names
 tried_at at_end call = length call.names
@@ -69,14 +77,16 @@ tried_at at_end call = length call.names
 abbrev pub IsPastPlan : Stage → Type 0
 IsPastPlan at_words = ⊥
 IsPastPlan at_plan = ⊥
+IsPastPlan at_verdict = ⊥
 IsPastPlan (at_opening count) = 1 ≤ count
 IsPastPlan in_run = ⊤
 IsPastPlan at_end = ⊤
 
--- it did not come to the end of the run
+-- it did not come to the end of a run
 abbrev pub IsBeforeEnd : Stage → Type 0
 IsBeforeEnd at_words = ⊤
 IsBeforeEnd at_plan = ⊤
+IsBeforeEnd at_verdict = ⊤
 IsBeforeEnd (at_opening count) = ⊤
 IsBeforeEnd in_run = ⊤
 IsBeforeEnd at_end = ⊥
@@ -89,14 +99,14 @@ LimitComesAt (File stream) stage = stage ≡ in_run
 
 -- how far a call comes that answers a status; memory may be wanting anywhere
 abbrev pub ComesAt : Status → Stage → Type 0
-ComesAt Done stage = stage ≡ at_end
+ComesAt Done stage = (stage ≡ at_end) ⊎ (stage ≡ at_verdict)
 ComesAt Usage stage = stage ≡ at_words
 ComesAt (PlanRefused line why) stage = stage ≡ at_plan
 ComesAt (FileCount want got) stage = stage ≡ at_plan
-ComesAt (Unsafe node risk) stage = stage ≡ at_plan
+ComesAt (Unsafe node risk) stage = (stage ≡ at_plan) ⊎ (stage ≡ at_verdict)
 ComesAt (OpenFault n) stage = (count : ℕ) × (count + 1 ≡ n) × (stage ≡ at_opening count)
 ComesAt (ReadFault n) stage = ((n ≡ 1) × (stage ≡ at_plan)) ⊎ ((1 < n) × (stage ≡ in_run))
-ComesAt WriteFault stage = stage ≡ in_run
+ComesAt WriteFault stage = (stage ≡ in_run) ⊎ (stage ≡ at_verdict)
 ComesAt NoMemory stage = IsBeforeEnd stage
 ComesAt (Limit what) stage = LimitComesAt what stage
 
@@ -193,6 +203,27 @@ StopLeaves (Limit what) job call after old new =
     ((bytes : List ℕ) × LimitLeaves job (stream_files call) what old.written bytes × Left bytes (status_line (limit_name job.nodes what) (Limit what)) old new)
     ⊎ CutAtLimit what job call old new
 
+-- What is left where a plan was checked: its text, that of a safe plan or of one that is not; where a write failed, a front of the
+-- text; where memory was wanting, the status' line alone
+abbrev pub VerdictLeaves : Status → Bool → Outline → SinkState → SinkState → Type 0
+VerdictLeaves Done print plan old new = IsSafePlan plan.nodes × (IsTrue new.told → new.written ≡ old.written ++ concat (check_lines print plan))
+VerdictLeaves Usage print plan old new = ⊥
+VerdictLeaves (PlanRefused line why) print plan old new = ⊥
+VerdictLeaves (FileCount want got) print plan old new = ⊥
+VerdictLeaves (Unsafe node risk) print plan old new = IsFirstRisk plan.nodes node risk × Delivered (concat (check_lines print plan)) old new
+VerdictLeaves (OpenFault n) print plan old new = ⊥
+VerdictLeaves (ReadFault n) print plan old new = ⊥
+VerdictLeaves WriteFault print plan old new =
+    IsSafePlan plan.nodes × Rose old.faults new.faults × (IsTrue new.told → FrontOf (concat (check_lines print plan)) old.written new.written)
+VerdictLeaves NoMemory print plan old new = Delivered (status_line [] NoMemory) old new
+VerdictLeaves (Limit what) print plan old new = ⊥
+
+-- the call was to check a plan, where it is told the one that the bytes of its file spell, and this is left
+abbrev pub IsChecked : Ending → Type 0
+IsChecked e =
+    (print : Bool) × (plan : Outline) × (e.call.task ≡ checking print) × (HasToldPlan e.call → SpellsPlan (plan_bytes e.call) plan)
+    × VerdictLeaves e.status print plan e.old e.new
+
 -- where the call and the sink are told: what the run of its job leaves that stopped
 abbrev pub RunLeaves : Ending → Type 0
 RunLeaves e = IsTold e.call → IsTrue e.new.told → (job : Job) × (job_of e.call ≡ Some job) × StopLeaves e.status job e.call e.after e.old e.new
@@ -207,6 +238,7 @@ KeepsLast place e =
 abbrev pub LeavesAt : Stage → Ending → Type 0
 LeavesAt at_words e = EarlyLeaves e.status e.call e.old e.new
 LeavesAt at_plan e = EarlyLeaves e.status e.call e.old e.new
+LeavesAt at_verdict e = IsChecked e
 LeavesAt (at_opening count) e = EarlyLeaves e.status e.call e.old e.new × KeepsLast count e
 LeavesAt in_run e = RunLeaves e
 LeavesAt at_end e = ⊤

@@ -3,6 +3,7 @@ pub mod Completeness
 pub mod Endings
 pub mod Plans
 pub mod Promises
+pub mod Ready
 pub mod Refusals
 pub mod Stops
 pub mod Top

@@ -1,5 +1,5 @@
 -- What the top call promises: each clause is a sentence on how a call ended.
-use Rattle.std.specs.Prelude.{◌≡◌, ℕ, false}
+use Rattle.std.specs.Prelude.{◌≡◌, ℕ, false, ⊤}
 use Rattle.pj_feed.specs.Opened.{AreReadToEnd}
 use Rattle.pj_plan.specs.declared.fault.PlanWhy.{PlanWhy}
 use Rattle.pj_report.specs.declared.status.Status.TheVariants.{Done, Usage, OpenFault, ReadFault, PlanRefused, FileCount, Unsafe, WriteFault, Limit}
@@ -7,32 +7,33 @@ use Rattle.pj_report.specs.declared.status.LimitOf.TheVariants.{Plan, Node, File
 use Rattle.pj_report.specs.Written.{HandedOn}
 use Rattle.pj_run.specs.Runs.{IsAnswer, ArePunctuations, AreLawful, AreTallies}
 use Rattle.pj_safety.specs.declared.risk.PlanRisk.{PlanRisk}
+use Rattle.pj_alone.specs.Calls.{nothing, running, checking, takes_plan, Task}
 use Rattle.pj_alone.specs.Completeness.{Completes}
 use Rattle.pj_alone.specs.Endings.{Ending, EndsAt, Stage}
 use Rattle.pj_alone.specs.Refusals.{IsRefused}
-use Rattle.pj_alone.specs.Top.{AnswersRefusal, BeyondLimit, HasFault, IsBuilt, IsTooLarge, IsUnopened, NeverRetracted, OneThreadBytes, Ran, WriteFails}
+use Rattle.pj_alone.specs.Top.{AnswersRefusal, BeyondLimit, HasFault, IsFit, IsTooLarge, IsUnopened, NeverRetracted, OneThreadBytes, Ran, WriteFails}
 
 -- ---- a run that is done
 
 -- the rows are the plan's answer over exactly the accepted rows, as a bag
 abbrev pub Answers : Ending → Type 0
-Answers e = e.status ≡ Done → Ran IsAnswer e.call e.old e.new
+Answers e = e.call.task ≡ running → e.status ≡ Done → Ran IsAnswer e.call e.old e.new
 
 -- the punctuations are the plan's over those that were accepted and the closings, as a bag
 abbrev pub Punctuates : Ending → Type 0
-Punctuates e = e.status ≡ Done → Ran ArePunctuations e.call e.old e.new
+Punctuates e = e.call.task ≡ running → e.status ≡ Done → Ran ArePunctuations e.call e.old e.new
 
 -- no row follows a punctuation that it matches
 abbrev pub StaysLawful : Ending → Type 0
-StaysLawful e = e.status ≡ Done → Ran AreLawful e.call e.old e.new
+StaysLawful e = e.call.task ≡ running → e.status ≡ Done → Ran AreLawful e.call e.old e.new
 
 -- the bytes are those of the run on one thread and its report
 abbrev pub WritesOneThread : Ending → Type 0
-WritesOneThread e = e.status ≡ Done → OneThreadBytes e.call e.old e.new
+WritesOneThread e = e.call.task ≡ running → e.status ≡ Done → OneThreadBytes e.call e.old e.new
 
 -- the report's counts, rejects, peaks and check are right
 abbrev pub Tallies : Ending → Type 0
-Tallies e = e.status ≡ Done → Ran AreTallies e.call e.old e.new
+Tallies e = e.call.task ≡ running → e.status ≡ Done → Ran AreTallies e.call e.old e.new
 
 -- all files were read to their ends
 abbrev pub ReadsToEnd : Ending → Type 0
@@ -44,9 +45,15 @@ ReadsToEnd e = e.status ≡ Done → AreReadToEnd e.call.names e.call.folder e.a
 abbrev pub Ends : Ending → Type 0
 Ends e = (stage : Stage) × EndsAt stage e
 
+-- a check writes no results
+abbrev pub IsNoCheck : Task → Type 0
+IsNoCheck nothing = ⊤
+IsNoCheck running = ⊤
+IsNoCheck (checking print) = ⊥
+
 -- what was written stays right, however the streams go on
 abbrev pub RetractsNothing : Ending → Type 0
-RetractsNothing e = NeverRetracted e.call e.old e.new
+RetractsNothing e = IsNoCheck e.call.task → NeverRetracted e.call e.old e.new
 
 -- the sink holds nothing back, or its faults rose
 abbrev pub HandsOn : Ending → Type 0
@@ -55,14 +62,14 @@ HandsOn e = HandedOn e.old e.new
 -- ---- when each status comes
 
 abbrev pub IsRightlyDone : Ending → Type 0
-IsRightlyDone e = e.status ≡ Done → IsBuilt e.call
+IsRightlyDone e = e.status ≡ Done → IsFit e.call.task e.call
 
 abbrev pub IsRightUsage : Ending → Type 0
-IsRightUsage e = e.status ≡ Usage → e.call.is_run ≡ false
+IsRightUsage e = e.status ≡ Usage → takes_plan e.call.task ≡ false
 
--- what is no run is answered so
+-- what names no plan is answered so
 abbrev pub AnswersUsage : Ending → Type 0
-AnswersUsage e = e.call.is_run ≡ false → e.status ≡ Usage
+AnswersUsage e = takes_plan e.call.task ≡ false → e.status ≡ Usage
 
 abbrev pub IsRightPlanLimit : Ending → Type 0
 IsRightPlanLimit e = e.status ≡ Limit Plan → IsRefused e.call (Limit Plan)
@@ -95,6 +102,6 @@ IsRightLimit e = (node : ℕ) → e.status ≡ Limit (Node node) → BeyondLimit
 abbrev pub IsRightFileLimit : Ending → Type 0
 IsRightFileLimit e = (stream : ℕ) → e.status ≡ Limit (File stream) → IsTooLarge e.call stream
 
--- a run that nothing hinders is done, or memory was wanting
+-- what nothing hinders is done, or memory was wanting
 abbrev pub IsCompleted : Ending → Type 0
 IsCompleted e = Completes e.status e.call e.after e.old e.new

@@ -1,5 +1,5 @@
 -- What words, plan and number of files refuse, and why there is no plan to run.
-use Rattle.std.specs.Prelude.{ℕ, ◌^◌, ◌-◌, ◌<◌, ◌≤◌, ◌≡◌, ◌≢◌, ◌⊎◌, true, false, ⊤, min, List, [], ◌∷◌, Result, Ok, Err, IsTrue, length}
+use Rattle.std.specs.Prelude.{ℕ, ◌^◌, ◌-◌, ◌<◌, ◌≤◌, ◌≡◌, ◌≢◌, ◌⊎◌, true, false, ⊤, min, List, [], ◌∷◌, Option, Some, None, Result, Ok, Err, IsTrue, length}
 use Rattle.pj_io.specs.Folders.{RoseAt, SameEverywhere}
 use Rattle.pj_io.specs.States.{FolderState}
 use Rattle.pj_plan.specs.declared.fault.PlanFault.{PlanFault}
@@ -13,7 +13,7 @@ use Rattle.pj_alone.specs.declared.stops.FileStop.{FileStop}
 use Rattle.pj_alone.specs.declared.stops.FileStop.TheVariants.{OpenFault, ReadFault, TooLong, NoMemory as FileMemory}
 use Rattle.pj_alone.specs.declared.stops.PlanStop.{PlanStop}
 use Rattle.pj_alone.specs.declared.stops.PlanStop.TheVariants.{Usage as NoWords, File, Refused, FileCount as OtherCount, Unsafe as Stuck, NoMemory as PlanMemory}
-use Rattle.pj_alone.specs.Calls.{Call, HasToldPlan, file_names, operand, plan_bytes}
+use Rattle.pj_alone.specs.Calls.{running, takes_plan, Call, HasToldPlan, files_asked, file_names, operand, plan_bytes}
 use Rattle.pj_feed.specs.Opened.{OpensFirst}
 use Rattle.pj_safety.specs.Safety.{IsFirstRisk}
 use Rattle.pj_judge.specs.Judgments.{AreUnsafeLines, HasUnsafeLines}
@@ -24,12 +24,18 @@ use Rattle.pj_judge.specs.Judgments.{AreUnsafeLines, HasUnsafeLines}
 abbrev pub counted_files : ℕ → ℕ
 counted_files n = min n (2 ^ 32 - 1)
 
--- What a plan without fault is refused with, where there are so many files: it has another number of streams; or else a node of it
--- is not safe, and these are the first such node and its risk
-abbrev pub RefusesPlan : Status → ℕ → Outline → Type 0
-RefusesPlan (FileCount want got) files plan =
+-- the plan has a stream for each of so many files, where that is asked
+abbrev pub HasStreams : Option ℕ → Outline → Type 0
+HasStreams None plan = ⊤
+HasStreams (Some files) plan = length (streams_of plan.nodes) ≡ files
+
+-- What a plan without fault is refused with, where there are so many files: it has another number of streams, if that is asked; or
+-- else a node of it is not safe, and these are the first such node and its risk
+abbrev pub RefusesPlan : Status → Option ℕ → Outline → Type 0
+RefusesPlan (FileCount want got) None plan = ⊥
+RefusesPlan (FileCount want got) (Some files) plan =
     (length (streams_of plan.nodes) ≢ files) × (want ≡ length (streams_of plan.nodes)) × (got ≡ counted_files files)
-RefusesPlan (Unsafe node risk) files plan = (length (streams_of plan.nodes) ≡ files) × IsFirstRisk plan.nodes node risk
+RefusesPlan (Unsafe node risk) files plan = HasStreams files plan × IsFirstRisk plan.nodes node risk
 RefusesPlan Done files plan = ⊥
 RefusesPlan Usage files plan = ⊥
 RefusesPlan (PlanRefused line why) files plan = ⊥
@@ -40,29 +46,29 @@ RefusesPlan NoMemory files plan = ⊥
 RefusesPlan (Limit what) files plan = ⊥
 
 -- a plan with a fault is refused with its first
-abbrev pub RefusesRead : Status → ℕ → Result Outline PlanFault → Type 0
+abbrev pub RefusesRead : Status → Option ℕ → Result Outline PlanFault → Type 0
 RefusesRead status files (Ok plan) = RefusesPlan status files plan
 RefusesRead status files (Err fault) = status ≡ PlanRefused fault.line fault.why
 
 -- a file of more than 1,048,576 bytes is too long for a plan
-abbrev pub RefusesBytes : Status → ℕ → List ℕ → Type 0
+abbrev pub RefusesBytes : Status → Option ℕ → List ℕ → Type 0
 RefusesBytes status files bytes =
     ((1048576 < length bytes) × (status ≡ Limit Plan)) ⊎ ((length bytes ≤ 1048576) × RefusesRead status files (plan_read bytes))
 
 -- what words, plan and number of files are refused with, whichever is asked first
 abbrev pub Refuses : Call → Status → Type 0
 Refuses call status =
-    ((call.is_run ≡ false) × (status ≡ Usage))
-    ⊎ ((call.is_run ≡ true) × RefusesBytes status (length (file_names call)) (plan_bytes call))
+    ((takes_plan call.task ≡ false) × (status ≡ Usage))
+    ⊎ ((takes_plan call.task ≡ true) × RefusesBytes status (files_asked call) (plan_bytes call))
 
--- the words ask for a run, and where the plan is told it is refused so
+-- what is asked for names a plan, and where that is told it is refused so
 abbrev pub IsRefused : Call → Status → Type 0
-IsRefused call status = (call.is_run ≡ true) × (HasToldPlan call → Refuses call status)
+IsRefused call status = (takes_plan call.task ≡ true) × (HasToldPlan call → Refuses call status)
 
 -- ---- why there is no plan to run
 
 -- a plan without fault is refused so, where there are so many files
-abbrev pub PlanUnfit : PlanStop → ℕ → Outline → Type 0
+abbrev pub PlanUnfit : PlanStop → Option ℕ → Outline → Type 0
 PlanUnfit NoWords files plan = ⊥
 PlanUnfit (File stop) files plan = ⊥
 PlanUnfit (Refused fault) files plan = ⊥
@@ -81,11 +87,11 @@ HasLines (OtherCount want got) = ⊤
 HasLines PlanMemory = ⊤
 
 -- the bytes spell a plan without fault, which is refused so
-abbrev pub ReadUnfit : PlanStop → ℕ → List ℕ → Type 0
+abbrev pub ReadUnfit : PlanStop → Option ℕ → List ℕ → Type 0
 ReadUnfit stop files bytes = (plan : Outline) × (plan_read bytes ≡ Ok plan) × PlanUnfit stop files plan
 
 -- the bytes of a plan's file, which are not too many, are refused so, where there are so many files
-abbrev pub BytesRefused : PlanStop → ℕ → List ℕ → Type 0
+abbrev pub BytesRefused : PlanStop → Option ℕ → List ℕ → Type 0
 BytesRefused NoWords files bytes = ⊥
 BytesRefused (File stop) files bytes = ⊥
 BytesRefused (Refused fault) files bytes = plan_read bytes ≡ Err fault
@@ -113,13 +119,13 @@ OpenedWithFault fault name old new =
     OpensFirst 1 (name ∷ []) old new × (IsTrue (old.told name) → (length (old.contents name) ≤ 1048576) × (plan_read (old.contents name) ≡ Err fault))
 
 -- the file of this name was opened, and a plan was read that is refused so; where the file is told it is the plan that its bytes spell
-abbrev pub OpenedAndUnfit : PlanStop → ℕ → List ℕ → FolderState → FolderState → Type 0
+abbrev pub OpenedAndUnfit : PlanStop → Option ℕ → List ℕ → FolderState → FolderState → Type 0
 OpenedAndUnfit stop files name old new =
     OpensFirst 1 (name ∷ []) old new × (plan : Outline) × PlanUnfit stop files plan
     × (IsTrue (old.told name) → (length (old.contents name) ≤ 1048576) × (plan_read (old.contents name) ≡ Ok plan))
 
 -- why there is no plan in the file of this name for so many files
-abbrev pub PlanCause : PlanStop → ℕ → List ℕ → FolderState → FolderState → Type 0
+abbrev pub PlanCause : PlanStop → Option ℕ → List ℕ → FolderState → FolderState → Type 0
 PlanCause NoWords files name old new = ⊥
 PlanCause (File OpenFault) files name old new = OpensFirst 0 (name ∷ []) old new × RoseAt name old.faults new.faults × SameEverywhere old.last new.last
 PlanCause (File ReadFault) files name old new = OpensFirst 1 (name ∷ []) old new × RoseAt name old.faults new.faults
@@ -132,19 +138,24 @@ PlanCause PlanMemory files name old new = ⊤
 
 -- a call is a run, and names the plan's file
 pub record IsRun (call : Call) : Type 0 where
-  pub form : call.is_run ≡ true
+  pub form : call.task ≡ running
   pub named : call.names ≡ operand call.names 1 ∷ file_names call
 
--- it is a run, and its plan's file has no plan that can be run, for this cause
-abbrev pub RunUnfit : PlanStop → Call → FolderState → Type 0
-RunUnfit stop call after = IsRun call × PlanCause stop (length (file_names call)) (operand call.names 1) call.folder after
+-- a call names a plan's file
+pub record HasPlan (call : Call) : Type 0 where
+  pub takes : takes_plan call.task ≡ true
+  pub named : call.names ≡ operand call.names 1 ∷ file_names call
 
--- why a call has no plan to run: it is no run, and nothing was done; it names a file with no such plan; or memory was wanting,
+-- it names a plan's file, which has no plan for it, for this cause
+abbrev pub CallUnfit : PlanStop → Call → FolderState → Type 0
+CallUnfit stop call after = HasPlan call × PlanCause stop (files_asked call) (operand call.names 1) call.folder after
+
+-- why a call has no plan: what is asked for names none, and nothing was done; it names a file with no such plan; or memory was wanting,
 -- maybe before the words were read
 abbrev pub Unprepared : PlanStop → Call → FolderState → Type 0
-Unprepared NoWords call after = (call.is_run ≡ false) × (after ≡ call.folder)
-Unprepared (File stop) call after = RunUnfit (File stop) call after
-Unprepared (Refused fault) call after = RunUnfit (Refused fault) call after
-Unprepared (OtherCount want got) call after = RunUnfit (OtherCount want got) call after
-Unprepared (Stuck found) call after = RunUnfit (Stuck found) call after
-Unprepared PlanMemory call after = IsRun call ⊎ (after ≡ call.folder)
+Unprepared NoWords call after = (takes_plan call.task ≡ false) × (after ≡ call.folder)
+Unprepared (File stop) call after = CallUnfit (File stop) call after
+Unprepared (Refused fault) call after = CallUnfit (Refused fault) call after
+Unprepared (OtherCount want got) call after = CallUnfit (OtherCount want got) call after
+Unprepared (Stuck found) call after = CallUnfit (Stuck found) call after
+Unprepared PlanMemory call after = HasPlan call ⊎ (after ≡ call.folder)

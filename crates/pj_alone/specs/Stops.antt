@@ -1,5 +1,6 @@
 -- How the stop of a part becomes that of the whole.
-use Rattle.std.specs.Prelude.{ℕ, List, []}
+use Rattle.std.specs.Prelude.{ℕ, List, [], Option, Some, None, Result, Ok, Err}
+use Rattle.pj_safety.specs.declared.risk.PlanRisk.{PlanRisk}
 use Rattle.pj_alone.specs.declared.stops.FileStop.{FileStop}
 use Rattle.pj_alone.specs.declared.stops.FileStop.TheVariants.{OpenFault as NotOpened, ReadFault as NotRead, TooLong, NoMemory as FileMemory}
 use Rattle.pj_alone.specs.declared.stops.PlanStop.{PlanStop}
@@ -7,7 +8,7 @@ use Rattle.pj_alone.specs.declared.stops.PlanStop.TheVariants.{Usage as NoWords,
 use Rattle.pj_report.specs.declared.status.Status.{Status}
 use Rattle.pj_report.specs.Report.{status_line}
 use Rattle.pj_report.specs.Written.{flat}
-use Rattle.pj_report.specs.declared.status.Status.TheVariants.{Usage, OpenFault, ReadFault as StatusFault, PlanRefused, FileCount, Unsafe, NoMemory as StatusMemory, Limit as StatusLimit}
+use Rattle.pj_report.specs.declared.status.Status.TheVariants.{Done, Usage, OpenFault, ReadFault as StatusFault, PlanRefused, FileCount, Unsafe, WriteFault, NoMemory as StatusMemory, Limit as StatusLimit}
 use Rattle.pj_report.specs.declared.status.LimitOf.TheVariants.{Plan}
 
 -- the status of a call whose plan's file was not read; it is operand 1
@@ -34,3 +35,9 @@ refusal_text (PlanFile stop) = status_line [] (file_status stop)
 refusal_text (Refused fault) = status_line [] (PlanRefused fault.line fault.why)
 refusal_text (OtherCount want got) = status_line [] (FileCount want got)
 refusal_text PlanMemory = status_line [] StatusMemory
+
+-- the status of a check: of a plan that is at this risk, or of a safe one whose lines were written or not
+abbrev pub verdict_status : {E : Type 0} → Option (ℕ × PlanRisk) → Result (Unit {0}) E → Status
+verdict_status (Some (node, risk)) written = Unsafe node risk
+verdict_status None (Ok u) = Done
+verdict_status None (Err stop) = WriteFault

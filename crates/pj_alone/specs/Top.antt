@@ -1,5 +1,5 @@
 -- What is so of a run that is done and of what was written, and when each status comes.
-use Rattle.std.specs.Prelude.{◌≡◌, ◌<◌, ◌≤◌, ◌+◌, ◌^◌, ℕ, true, ◌⊎◌, ⊤, List, [], ◌∷◌, ◌++◌, map, length, Some, IsTrue}
+use Rattle.std.specs.Prelude.{◌≡◌, ◌<◌, ◌≤◌, ◌+◌, ◌^◌, ℕ, ◌⊎◌, ⊤, List, [], ◌∷◌, ◌++◌, map, length, Some, IsTrue}
 use Rattle.pj_plan.specs.declared.node.Outline.{Outline}
 use Rattle.pj_plan.specs.declared.node.PlanNode.{PlanNode}
 use Rattle.pj_plan.specs.Nodes.{streams_of, streams_in}
@@ -18,7 +18,7 @@ use Rattle.pj_events.specs.Outcomes.{elements_out, outputs_of as handed_out, ele
 use Rattle.pj_events.specs.Join.{upto_from}
 use Rattle.pj_report.specs.declared.status.Status.{Status}
 use Rattle.pj_report.specs.declared.status.Status.TheVariants.{OpenFault, ReadFault, NoMemory}
-use Rattle.pj_alone.specs.Calls.{Call, job_of, IsTold, HasToldPlan, operand, file_names, plan_bytes, stream_files}
+use Rattle.pj_alone.specs.Calls.{nothing, running, checking, Task, Call, job_of, IsTold, HasToldPlan, operand, file_names, plan_bytes, stream_files}
 use Rattle.pj_feed.specs.Opened.{OpensFirst}
 use Rattle.pj_alone.specs.Plans.{plan_of}
 use Rattle.pj_alone.specs.Refusals.{Refuses}
@@ -50,8 +50,18 @@ IsPlanOf streams bytes = (length bytes ≤ 1048576) × ((plan : Outline) × (pla
 
 -- there is something to run, as far as words and plan tell: the plan has a stream for each file
 pub record IsBuilt (call : Call) : Type 0 where
-  pub form : call.is_run ≡ true
+  pub form : call.task ≡ running
   pub plan : HasToldPlan call → IsPlanOf (length (file_names call)) (plan_bytes call)
+
+-- the bytes are few enough and spell a safe plan
+abbrev pub IsSafeText : List ℕ → Type 0
+IsSafeText bytes = (length bytes ≤ 1048576) × ((plan : Outline) × (plan_of bytes ≡ Some plan) × IsSafePlan plan.nodes)
+
+-- nothing is refused of what is asked for: there is something to run; or the plan that is to be checked, where it is told, is safe
+abbrev pub IsFit : Task → Call → Type 0
+IsFit nothing call = ⊥
+IsFit running call = IsBuilt call
+IsFit (checking print) call = HasToldPlan call → IsSafeText (plan_bytes call)
 
 -- ---- what was written stays right
 
@@ -124,9 +134,9 @@ pub record IsTooLarge (call : Call) (stream : ℕ) : Type 0 where
   pub there : stream < length (file_names call)
   pub bytes : IsTrue (call.folder.told (operand call.names (2 + stream))) → 2 ^ 40 ≤ length (call.folder.contents (operand call.names (2 + stream)))
 
--- a write failed where there was something to run
+-- a write failed where nothing was refused
 abbrev pub WriteFails : Call → SinkState → SinkState → Type 0
-WriteFails call first now = Rose first.faults now.faults × IsBuilt call
+WriteFails call first now = Rose first.faults now.faults × IsFit call.task call
 
 -- the faults of this operand rose; a stream's file is read only where there is something to run
 pub record HasFault (call : Call) (after : FolderState) (n : ℕ) : Type 0 where

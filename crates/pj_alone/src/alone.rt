@@ -6,8 +6,9 @@ ghost use Rattle.pj_alone.specs.Calls.{call_for};
 ghost use Rattle.pj_alone.specs.Endings.{ending_of, stream_name as name_of_stream, stop_name as stop_name_of};
 ghost use Rattle.pj_alone.specs.Promises.{Answers, AnswersRefusals, AnswersUsage, Ends, HandsOn, IsCompleted, IsRightCount, IsRightFault, IsRightFileLimit, IsRightLimit, IsRightlyDone, IsRightlyUnsafe, IsRightOpenFault, IsRightPlanLimit, IsRightReadFault, IsRightUsage, IsRightWriteFault, Punctuates, ReadsToEnd, RetractsNothing, StaysLawful, Tallies, WritesOneThread};
 
-use crate::calls::{Prepared, files_in, prepare};
+use crate::calls::{Prepared, Ready, files_in, prepare};
 use crate::refusal::write_refusal;
+use crate::verdict::write_verdict;
 use pj_io::{Folder, Sink};
 use pj_plan::Plan;
 use pj_report::{LimitOf, Status};
@@ -15,14 +16,16 @@ use pj_run::{run_files, write_stop};
 use pj_words::Request;
 use std::alloc::Global;
 
-/// Does on one thread what is asked for, and returns: a run reads a plan, and a file for each of its streams, and writes what the plan's run
-/// hands out, and the report; with `trace` also a note for each row that a sweep removes, with `sorted` the results in order of
-/// their lines once the run is done, rows first, and a report without peaks, and with `check` the number of rows of the plan's
-/// answer, worked out again from the accepted rows. No more than `limit` elements may arrive at a join or a group. A plan of which
-/// a node is not safe is refused with `Unsafe` before a file of a stream is opened; every other plan is run. Requests that are no
-/// runs are answered with `Usage`.
+/// Does on one thread what is asked for, and returns. A run reads a plan, and a file for each of its streams, and writes what the
+/// plan's run hands out, and the report; with `trace` also a note for each row that a sweep removes, with `sorted` the results in
+/// order of their lines once the run is done, rows first, and a report without peaks, and with `check` the number of rows of the
+/// plan's answer, worked out again from the accepted rows. No more than `limit` elements may arrive at a join or a group. A plan of
+/// which a node is not safe is refused with `Unsafe` before a file of a stream is opened; every other plan is run.
 ///
-/// Sweeps keep each join finite: after each punctuation the run removes the stored rows whose need is covered, and the join hands
+/// A check reads a plan, and writes what each input of each join reaches, behind the canonical plan with `print`: `Done` where the plan
+/// is safe, else `Unsafe`. Requests that are neither are answered with `Usage`.
+///
+/// Sweeps keep each join finite: after each punctuation a run removes the stored rows whose need is covered, and the join hands
 /// up each punctuation, widened, as soon as no stored row of its input matches it.
 pub fn run_alone<F: Folder, K: Sink>(
     alloc: Global,
@@ -62,7 +65,7 @@ pub fn run_alone<F: Folder, K: Sink>(
     ensures completes { IsCompleted (ending_of (call_for request.now (F.state folder.old)) result (F.state folder.new) (K.state out.old) (K.state out.new)) }
 {
     match prepare(alloc, request, folder) {
-        Ok(ready) => {
+        Ok(Ready::Run { ready }) => {
             let Prepared { mut core, writing } = ready;
             let files = files_in(request);
             match run_files(alloc, writing, &mut core, files, folder, out) {
@@ -74,6 +77,7 @@ pub fn run_alone<F: Folder, K: Sink>(
                 }
             }
         }
+        Ok(Ready::Check { plan, print }) => write_verdict(alloc, &plan, print, out),
         Err(stop) => {
             write_refusal(&stop, out);
             stop.status()

@@ -1,15 +1,16 @@
 // What a request asks for: a plan, with a file for each of its streams.
-ghost use Rattle.std.specs.Prelude.{◌≡◌, ◌≤◌, ◌^◌, ◌∷◌, [], false, Some, Err, IsTrue, IfOk, IfErr, OnOk, length, take};
+ghost use Rattle.std.specs.Prelude.{ℕ, ◌≡◌, ◌≤◌, ◌^◌, ◌∷◌, [], false, Option, Some, None, Ok, Err, IsTrue, IfOk, IfErr, OnOk, length, take};
 ghost use Rattle.pj_io.specs.States.{FolderState};
 ghost use Rattle.pj_io.specs.Folders.{NoneFalls, SameElsewhere};
 ghost use Rattle.pj_plan.specs.Nodes.{streams_of};
 ghost use Rattle.pj_plan_text.specs.PlanRead.{plan_read};
 ghost use Rattle.pj_safety.specs.Certificates.{AreCertificates, certificates_of};
 ghost use Rattle.pj_safety.specs.Safety.{IsSafePlan};
-ghost use Rattle.pj_alone.specs.Calls.{call_for, file_names, form_by, operand, plan_bytes, HasReadPlan, HasToldPlan};
+ghost use Rattle.pj_alone.specs.Calls.{takes_plan, call_for, file_names, form_by, operand, plan_bytes, HasReadPlan, HasToldPlan};
 ghost use Rattle.pj_feed.specs.Opened.{OpensFirst, OpensAtMost, IsReadToEnd, StayOutside};
 ghost use Rattle.pj_alone.specs.Plans.{outline_in, plan_of, IsAsked, SpellsPlan};
-ghost use Rattle.pj_alone.specs.Refusals.{BytesRefused, HasLines, IsRun, PlanCause, PlanUnfit, Unprepared, counted_files};
+ghost use Rattle.pj_alone.specs.Ready.{IsReadyFor};
+ghost use Rattle.pj_alone.specs.Refusals.{BytesRefused, HasLines, PlanCause, PlanUnfit, Unprepared, counted_files};
 ghost use Rattle.pj_run.specs.Runs.{IsNewCore};
 ghost use Rattle.pj_words.specs.Request.{IsRequest};
 
@@ -47,21 +48,26 @@ pub struct Prepared {
     pub writing: Writing,
 }
 
-/// A core of the plan that the request names, if it asks for a run, and the plan is safe and has a stream for each file.
+/// What is ready to be done.
+#[derive(Drop)]
+pub enum Ready {
+    /// A run.
+    Run { ready: Prepared },
+    /// The check of a plan, which is to be printed or not.
+    Check { plan: Plan, print: bool },
+}
+
+/// What is to be done of the request: a core of the plan that it names, if it asks for a run, and the plan is safe and has a stream
+/// for each file; or the plan itself, if it is to be checked.
 pub fn prepare<F: Folder>(
     alloc: Global,
     request: &Request,
     folder: &mut F,
-) -> Result<Prepared, PlanStop>
+) -> Result<Ready, PlanStop>
     requires { IsRequest request.now }
-    ensures fresh { IfOk result (λ ready. IsNewCore ready.core) }
-    ensures safe { IfOk result (λ ready. IsSafePlan ready.core.plan.nodes) }
-    ensures form { OnOk result (IsRun (call_for request.now (F.state folder.old))) }
-    ensures count { IfOk result (λ ready. length (file_names (call_for request.now (F.state folder.old))) ≡ length (streams_of ready.core.plan.nodes)) }
-    ensures asked { IfOk result (IsAsked (call_for request.now (F.state folder.old)).options) }
+    ensures ready { IfOk result (IsReadyFor (call_for request.now (F.state folder.old))) }
     ensures told { (F.state folder.new).told ≡ (F.state folder.old).told }
     ensures contents { (F.state folder.new).contents ≡ (F.state folder.old).contents }
-    ensures read { HasToldPlan (call_for request.now (F.state folder.old)) → IfOk result (λ ready. SpellsPlan (plan_bytes (call_for request.now (F.state folder.old))) (outline_in ready.core)) }
     ensures last { OnOk result (HasReadPlan (call_for request.now (F.state folder.old)) (F.state folder.new)) }
     ensures other_last { OnOk result (SameElsewhere (operand (call_for request.now (F.state folder.old)).names 1) (F.state folder.old).last (F.state folder.new).last) }
     ensures later { NoneFalls (F.state folder.old).faults (F.state folder.new).faults }
@@ -69,7 +75,7 @@ pub fn prepare<F: Folder>(
     ensures was_opened { OnOk result (OpensFirst 1 (call_for request.now (F.state folder.old)).names (F.state folder.old) (F.state folder.new)) }
     ensures others { StayOutside (take 1 (call_for request.now (F.state folder.old)).names) (F.state folder.old) (F.state folder.new) }
     ensures cause { IfErr result (λ stop. Unprepared stop (call_for request.now (F.state folder.old)) (F.state folder.new)) }
-    ensures usage { (call_for request.now (F.state folder.old)).is_run ≡ false → result ≡ Err PlanStop.Usage }
+    ensures usage { takes_plan (call_for request.now (F.state folder.old)).task ≡ false → result ≡ Err PlanStop.Usage }
 {
     match request {
         Request::Run {
@@ -87,10 +93,17 @@ pub fn prepare<F: Folder>(
                 form: form_for(*sorted),
                 check: *check,
             };
-            Ok(prepare_run(alloc, plan.as_slice(), files.len(), options, folder)?)
+            let ready = prepare_run(alloc, plan.as_slice(), files.len(), options, folder)?;
+            Ok(Ready::Run { ready })
         }
         Request::Replay { .. } => Err(PlanStop::Usage),
-        Request::Check { .. } => Err(PlanStop::Usage),
+        Request::Check { plan, print } => {
+            let plan = read_plan_of(alloc, plan.as_slice(), folder)?;
+            Ok(Ready::Check {
+                plan,
+                print: *print,
+            })
+        }
         Request::Make { .. } => Err(PlanStop::Usage),
     }
 }
@@ -129,7 +142,7 @@ fn prepare_run<F: Folder>(
     ensures some_opened { OpensAtMost 1 (name.now ∷ []) (F.state folder.old) (F.state folder.new) }
     ensures was_opened { OnOk result (OpensFirst 1 (name.now ∷ []) (F.state folder.old) (F.state folder.new)) }
     ensures others { StayOutside (name.now ∷ []) (F.state folder.old) (F.state folder.new) }
-    ensures cause { IfErr result (λ stop. PlanCause stop files name.now (F.state folder.old) (F.state folder.new)) }
+    ensures cause { IfErr result (λ stop. PlanCause stop (Some files) name.now (F.state folder.old) (F.state folder.new)) }
 {
     let core = read_plan_for(alloc, name, files, options, folder)?;
     let writing = Writing {
@@ -146,6 +159,37 @@ fn form_for(sorted: bool) -> Form
         Form::Sorted
     } else {
         Form::AsTheyCome
+    }
+}
+
+// The plan of this name.
+#[tactic(auto, using(crate::proofs::Refusing::file_cause, crate::proofs::Refusing::bytes_cause, crate::proofs::Refusing::stay_but, crate::proofs::Refusing::spelled_plan))]
+fn read_plan_of<F: Folder>(alloc: Global, name: &[u8], folder: &mut F) -> Result<Plan, PlanStop>
+    ensures told { (F.state folder.new).told ≡ (F.state folder.old).told }
+    ensures contents { (F.state folder.new).contents ≡ (F.state folder.old).contents }
+    ensures read { IsTrue ((F.state folder.old).told name.now) → IfOk result (λ plan. SpellsPlan ((F.state folder.old).contents name.now) plan) }
+    ensures last { IsTrue ((F.state folder.old).told name.now) → OnOk result (IsReadToEnd name.now (F.state folder.old) (F.state folder.new)) }
+    ensures other_last { SameElsewhere name.now (F.state folder.old).last (F.state folder.new).last }
+    ensures later { NoneFalls (F.state folder.old).faults (F.state folder.new).faults }
+    ensures some_opened { OpensAtMost 1 (name.now ∷ []) (F.state folder.old) (F.state folder.new) }
+    ensures was_opened { OnOk result (OpensFirst 1 (name.now ∷ []) (F.state folder.old) (F.state folder.new)) }
+    ensures others { StayOutside (name.now ∷ []) (F.state folder.old) (F.state folder.new) }
+    ensures cause { IfErr result (λ stop. PlanCause stop None name.now (F.state folder.old) (F.state folder.new)) }
+{
+    let bytes = read_file(alloc, folder, name)?;
+    Ok(plan_in(alloc, bytes.as_slice())?)
+}
+
+// The plan that the bytes spell.
+fn plan_in(alloc: Global, bytes: &[u8]) -> Result<Plan, PlanStop>
+    ensures read { IfOk result (λ plan. plan_read bytes.now ≡ Ok plan) }
+    ensures cause { (files : Option ℕ) → IfErr result (λ stop. BytesRefused stop files bytes.now) }
+    ensures lines { IfErr result HasLines }
+{
+    match read_plan(alloc, bytes) {
+        Ok(plan) => Ok(plan),
+        Err(ReadStop::Fault(fault)) => Err(PlanStop::Refused { fault }),
+        Err(ReadStop::NoMemory) => Err(PlanStop::NoMemory),
     }
 }
 
@@ -173,7 +217,7 @@ fn read_plan_for<F: Folder>(
     ensures some_opened { OpensAtMost 1 (name.now ∷ []) (F.state folder.old) (F.state folder.new) }
     ensures was_opened { OnOk result (OpensFirst 1 (name.now ∷ []) (F.state folder.old) (F.state folder.new)) }
     ensures others { StayOutside (name.now ∷ []) (F.state folder.old) (F.state folder.new) }
-    ensures cause { IfErr result (λ stop. PlanCause stop files name.now (F.state folder.old) (F.state folder.new)) }
+    ensures cause { IfErr result (λ stop. PlanCause stop (Some files) name.now (F.state folder.old) (F.state folder.new)) }
 {
     let bytes = read_file(alloc, folder, name)?;
     Ok(core_in(alloc, bytes.as_slice(), files, options)?)
@@ -189,14 +233,11 @@ fn core_in(alloc: Global, bytes: &[u8], files: usize, options: Options) -> Resul
     ensures trace { IfOk result (λ core. core.plan.trace ≡ options.trace) }
     ensures limit { IfOk result (λ core. core.limit ≡ options.limit) }
     ensures read { IfOk result (λ core. plan_of bytes.now ≡ Some (outline_in core)) }
-    ensures cause { IfErr result (λ stop. BytesRefused stop files bytes.now) }
+    ensures cause { IfErr result (λ stop. BytesRefused stop (Some files) bytes.now) }
     ensures lines { IfErr result HasLines }
 {
-    match read_plan(alloc, bytes) {
-        Ok(plan) => Ok(core_for(alloc, plan, files, options)?),
-        Err(ReadStop::Fault(fault)) => Err(PlanStop::Refused { fault }),
-        Err(ReadStop::NoMemory) => Err(PlanStop::NoMemory),
-    }
+    let plan = plan_in(alloc, bytes)?;
+    Ok(core_for(alloc, plan, files, options)?)
 }
 
 // A core of the plan, if that has so many streams and is safe.
@@ -208,7 +249,7 @@ fn core_for(alloc: Global, plan: Plan, files: usize, options: Options) -> Result
     ensures same { IfOk result (λ core. outline_in core ≡ plan) }
     ensures trace { IfOk result (λ core. core.plan.trace ≡ options.trace) }
     ensures limit { IfOk result (λ core. core.limit ≡ options.limit) }
-    ensures cause { IfErr result (λ stop. PlanUnfit stop files plan) }
+    ensures cause { IfErr result (λ stop. PlanUnfit stop (Some files) plan) }
     ensures lines { IfErr result HasLines }
 {
     let want = stream_count(&plan);

@@ -7,6 +7,7 @@ mod plan_file;
 mod refusal;
 mod status;
 mod stops;
+mod verdict;
 
 pub use alone::run_alone;
 pub use pj_judge::check_text;

@@ -1,5 +1,6 @@
 -- The lines of a status, of which a front was written.
-use Rattle.std.proofs.Common.{◌≡◌, ◌≤◌, ◌<◌, ◌+◌, ℕ, inr, List, [], ◌∷◌, ◌++◌, length, take, drop, get_or, ap, sym, subst, append_assoc, append-nil, ◌∙◌, arith}
+use Rattle.std.proofs.Common.{◌≡◌, ◌≤◌, ◌<◌, ◌+◌, ◌-◌, ℕ, inr, List, [], ◌∷◌, ◌++◌, length, take, drop, get_or, ap, sym, subst, append_assoc, append-nil, ◌∙◌, arith}
+use Rattle.std.proofs.Math.Seq.{take-add}
 use Rattle.std.proofs.lemmas.List.{take-append-drop, take_more}
 use Rattle.pj_io.specs.Causes.{Rose}
 use Rattle.pj_io.specs.Pieces.{GrewByLess}
@@ -45,3 +46,33 @@ line_cut lines i line old mid new lt is first later grew rose told = inr (
   stop_among anywhere (take i lines) (line ∷ []) (drop (i + 1) lines) lines old.written mid.written new.written first (piece_cut (line ∷ []) mid.written new.written line (append-nil line) grew)
       (ap (λ (ls : List (List ℕ)). ls ++ drop (i + 1) lines) (one_more lines i line lt is) ∙ take-append-drop (i + 1) lines),
 )
+
+-- ---- piece by piece of one text
+
+-- the text was written up to one place, and then up to a later one
+pub written_up : (text : List ℕ) (at end : ℕ) (before mid after : List ℕ) → at ≤ end → mid ≡ before ++ take at text → after ≡ mid ++ take (end - at) (drop at text) → after ≡ before ++ take end text
+written_up text at end before mid after le first then =
+    let more : at + (end - at) ≡ end = omega (arith, le) in
+    then
+    ∙ (ap (λ (xs : List ℕ). xs ++ take (end - at) (drop at text)) first
+    ∙ (append_assoc before (take at text) (take (end - at) (drop at text))
+    ∙ (ap (λ (xs : List ℕ). before ++ xs) (sym (take-add at (end - at) text)) ∙ ap (λ (n : ℕ). before ++ take n text) more)))
+
+-- the sink failed between two places
+pub cut_between : (text : List ℕ) (at len : ℕ) (old mid new : SinkState) → mid.written ≡ old.written ++ take at text → old.faults ≤ mid.faults → GrewByLess mid.written new.written (take len (drop at text)) → Rose mid.faults new.faults
+    → Delivered text old new
+cut_between text at len old mid new first later grew rose told =
+    let rest = drop at text in
+    let piece = take len rest in
+    let front = take grew.0 piece in
+    let others = drop grew.0 piece in inr (
+      omega (arith, later, rose),
+      record {
+        front = take at text ++ front;
+        others = others ++ drop len rest;
+        all = append_assoc (take at text) front (others ++ drop len rest)
+            ∙ (ap (λ (xs : List ℕ). take at text ++ xs) (sym (append_assoc front others (drop len rest)) ∙ (ap (λ (xs : List ℕ). xs ++ drop len rest) (take-append-drop grew.0 piece) ∙ take-append-drop len rest))
+            ∙ take-append-drop at text);
+        written = grew.1.grew ∙ (ap (λ (xs : List ℕ). xs ++ front) first ∙ append_assoc old.written (take at text) front);
+      },
+    )

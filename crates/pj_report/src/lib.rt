@@ -11,6 +11,7 @@ mod results;
 mod status;
 mod status_line;
 mod stops;
+mod text;
 mod writer;
 
 pub use laws::{forms_write_the_same, lines_are_of_elements, sorted_by_bags};
@@ -20,4 +21,5 @@ pub use results::Counts;
 pub use status::{LimitOf, Status};
 pub use status_line::{write_lines, write_status};
 pub use stops::WriteStop;
+pub use text::write_text;
 pub use writer::{Form, ResultWriter};

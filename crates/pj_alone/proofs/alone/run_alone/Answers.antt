@@ -2,7 +2,7 @@ use Rattle.pj_core.specs.Plans.{RunPlan}
 use Rattle.std.proofs.Common.{◌≡◌, ◌∷◌, refl, ap, sym, inl, ◌∙◌, ◌++◌, subst, Err, Some, IsTrue, List, ℕ, length}
 use Rattle.std.proofs.lemmas.Bool.{false≢true}
 use Rattle.pj_feed.specs.Named.{files_named, AreTold}
-use Rattle.pj_report.specs.declared.status.Status.TheVariants.{Done, PlanRefused, FileCount, Unsafe, WriteFault, Limit}
+use Rattle.pj_report.specs.declared.status.Status.TheVariants.{Done, Usage, OpenFault, ReadFault, PlanRefused, FileCount, Unsafe, WriteFault, Limit}
 use Rattle.pj_report.specs.declared.status.LimitOf.TheVariants.{Plan, Node, File}
 use Rattle.pj_report.specs.Written.{Leaves, flat}
 use Rattle.pj_run.specs.Cuts.{files_cut}
@@ -13,15 +13,17 @@ use Rattle.pj_run.specs.Stops.{files_status}
 use Rattle.pj_run.proofs.OutputLaws.{outputs_lawful, outputs_answer, outputs_puncts}
 use Rattle.pj_run.proofs.Planned.{new_planned}
 use Rattle.pj_feed.proofs.StreamNodes.{count_numbers}
-use Rattle.pj_alone.specs.Calls.{Call, call_for, job_of, operand, stream_files, HasToldPlan, IsTold}
+use Rattle.pj_alone.specs.Calls.{takes_plan, Call, call_for, job_of, operand, stream_files, HasToldPlan, IsTold}
 use Rattle.pj_alone.specs.Endings.{stop_name}
 use Rattle.pj_alone.specs.Plans.{outline_in}
+use Rattle.pj_alone.specs.Promises.{IsNoCheck}
 use Rattle.pj_alone.specs.Stops.{plan_status}
-use Rattle.pj_alone.specs.Top.{IsBuilt}
+use Rattle.pj_alone.specs.Top.{IsBuilt, IsFit}
 use Rattle.pj_alone.proofs.CallLaws.{named_of, job_read, files_told, files_same, all_read, built, ended_done, ended_stop, faulted, unopened, write_failed, beyond, too_large, few_names, of_few, stop_handed}
 use Rattle.pj_alone.proofs.Completing.{completes_by}
 use Rattle.pj_alone.proofs.EarlyLaws.{answers_built, answers_early, early_lines, ended_early, fault_early, no_words, refused_early, refused_never, run_never, unopened_early, usage_alone, usage_never}
 use Rattle.pj_alone.proofs.RunLaws.{ran}
+use Rattle.pj_alone.proofs.VerdictLaws.{answers_verdict, done_fits, ended_verdict, never_runs, read_alone, ready_check, ready_run, takes, unsafe_found, verdict_never, verdict_refused, write_fits}
 use Rattle.pj_alone.proofs.StaysLaws.{IsReady, never_early, never_done, never_stopped, stop_name_by, stop_name_short}
 use Rattle.pj_alone.proofs.alone.run_alone.Given.{Over}
 use Rattle.pj_alone.proofs.alone.run_alone.Goals.{After-run_files, After-stop_name}
@@ -33,139 +35,142 @@ abbrev call : (g : Over) → After-run_files g → Call
 call g c = call_for c.args.request.now (g.F.Folder.state c.args.folder.now)
 
 abbrev job : (g : Over) → After-run_files g → Job
-job g c = job_in c.in-Ok.ready.writing c.in-Ok.ready.core
+job g c = job_in c.in-Ok-Run.ready.writing c.in-Ok-Run.ready.core
 
 named : (g : Over) (c : After-run_files g) → (call g c).names ≡ operand (call g c).names 1 ∷ c.files_in-files.result.now
-named g c = named_of (call g c) c.files_in-files.result.now c.in-Ok.ensures.form (c.files_in-files.ensures (g.F.Folder.state c.args.folder.now))
+named g c = named_of (call g c) c.files_in-files.result.now (ready_run _ _ _ c.in-Ok-Run.ensures.ready c.in-Ok-Run.field-0-is).form (c.files_in-files.ensures (g.F.Folder.state c.args.folder.now))
 
 is_built : (g : Over) (c : After-run_files g) → IsBuilt (call g c)
 is_built g c =
-    let e = c.in-Ok.ensures in
-    built (call g c) c.files_in-files.result.now (g.F.Folder.state c.prepare.new.folder) (named g c) e.told e.contents (outline_in c.in-Ok.ready.core) e.form.form (ap length (c.files_in-files.ensures (g.F.Folder.state c.args.folder.now)) ∙ e.count) e.safe e.read
+    let e = c.in-Ok-Run.ensures in
+    built (call g c) c.files_in-files.result.now (g.F.Folder.state c.prepare.new.folder) (named g c) e.told e.contents (outline_in c.in-Ok-Run.ready.core) (ready_run _ _ _ e.ready c.in-Ok-Run.field-0-is).form.form (ap length (c.files_in-files.ensures (g.F.Folder.state c.args.folder.now)) ∙ (ready_run _ _ _ e.ready c.in-Ok-Run.field-0-is).count) (ready_run _ _ _ e.ready c.in-Ok-Run.field-0-is).safe (ready_run _ _ _ e.ready c.in-Ok-Run.field-0-is).read
+
+fits : (g : Over) (c : After-run_files g) → IsFit (call g c).task (call g c)
+fits g c = subst (λ t. IsFit t (call g c)) (sym (is_built g c).form) (is_built g c)
 
 read : (g : Over) (c : After-run_files g) → HasToldPlan (call g c) → job_of (call g c) ≡ Some (job g c)
-read g c t = let e = c.in-Ok.ensures in job_read (call g c) c.in-Ok.ready e.asked (e.read t).0
+read g c t = let e = c.in-Ok-Run.ensures in job_read (call g c) c.in-Ok-Run.ready (ready_run _ _ _ e.ready c.in-Ok-Run.field-0-is).asked ((ready_run _ _ _ e.ready c.in-Ok-Run.field-0-is).read t).0
 
 told : (g : Over) (c : After-run_files g) → IsTold (call g c) → AreTold c.files_in-files.result.now (g.F.Folder.state c.prepare.new.folder)
-told g c all = let e = c.in-Ok.ensures in files_told (call g c) c.files_in-files.result.now (g.F.Folder.state c.prepare.new.folder) (named g c) e.told e.contents all
+told g c all = let e = c.in-Ok-Run.ensures in files_told (call g c) c.files_in-files.result.now (g.F.Folder.state c.prepare.new.folder) (named g c) e.told e.contents all
 
 same : (g : Over) (c : After-run_files g) → files_named c.files_in-files.result.now (g.F.Folder.state c.prepare.new.folder) ≡ stream_files (call g c)
-same g c = let e = c.in-Ok.ensures in files_same (call g c) c.files_in-files.result.now (g.F.Folder.state c.prepare.new.folder) (named g c) e.told e.contents
+same g c = let e = c.in-Ok-Run.ensures in files_same (call g c) c.files_in-files.result.now (g.F.Folder.state c.prepare.new.folder) (named g c) e.told e.contents
 
 ready : (g : Over) (c : After-run_files g) → HasToldPlan (call g c) → IsReady (job g c) (call g c)
-ready g c t = let e = c.in-Ok.ensures in record { read = read g c t; planned = new_planned c.in-Ok.ready.writing c.in-Ok.ready.core e.fresh; names = e.fresh.names }
+ready g c t = let e = c.in-Ok-Run.ensures in record { read = read g c t; planned = new_planned c.in-Ok-Run.ready.writing c.in-Ok-Run.ready.core (ready_run _ _ _ e.ready c.in-Ok-Run.field-0-is).fresh; names = (ready_run _ _ _ e.ready c.in-Ok-Run.field-0-is).fresh.names }
 
 -- ---- the run begins
 
 pub run_files-requires-clause-each : goal.run_files-requires-clause-each
-run_files-requires-clause-each g c = ap length (c.files_in-files.ensures (g.F.Folder.state c.args.folder.now)) ∙ (c.in-Ok.ensures.count ∙ count_numbers c.in-Ok.ready.core.plan.nodes)
+run_files-requires-clause-each g c = ap length (c.files_in-files.ensures (g.F.Folder.state c.args.folder.now)) ∙ ((ready_run _ _ _ c.in-Ok-Run.ensures.ready c.in-Ok-Run.field-0-is).count ∙ count_numbers c.in-Ok-Run.ready.core.plan.nodes)
 
 -- ---- the run is done
 
-pub returns-in-Ok-run_files-clause-answer : goal.returns-in-Ok-run_files-clause-answer
-returns-in-Ok-run_files-clause-answer g c = λ _ all t.
-    let a = (goal.at.returns-in-Ok-run_files-clause-answer g c).After-run_files in
+pub returns-in-Ok-clause-answer : goal.returns-in-Ok-clause-answer
+returns-in-Ok-clause-answer g c = λ _ _ all t.
+    let a = (goal.at.returns-in-Ok-clause-answer g c).After-run_files in
     let files = files_named c.files_in-files.result.now (g.F.Folder.state c.prepare.new.folder) in
-    ran IsAnswer (job g a) (call g a) files (g.K.Sink.state c.args.out.now) (g.K.Sink.state c.run_files.new.out) (read g a all.plan) (same g a) (c.in-Ok-run_files.ensures.lines (told g a all) t)
-    (outputs_answer (job g a) files (new_planned c.in-Ok.ready.writing c.in-Ok.ready.core c.in-Ok.ensures.fresh) (report_of (job g a) files (outputs_of (job g a) files)))
+    ran IsAnswer (job g a) (call g a) files (g.K.Sink.state c.args.out.now) (g.K.Sink.state c.run_files.new.out) (read g a all.plan) (same g a) (c.in-Ok.ensures.lines (told g a all) t)
+    (outputs_answer (job g a) files (new_planned c.in-Ok-Run.ready.writing c.in-Ok-Run.ready.core (ready_run _ _ _ c.in-Ok-Run.ensures.ready c.in-Ok-Run.field-0-is).fresh) (report_of (job g a) files (outputs_of (job g a) files)))
 
-pub returns-in-Ok-run_files-clause-punctuations : goal.returns-in-Ok-run_files-clause-punctuations
-returns-in-Ok-run_files-clause-punctuations g c = λ _ all t.
-    let a = (goal.at.returns-in-Ok-run_files-clause-punctuations g c).After-run_files in
+pub returns-in-Ok-clause-punctuations : goal.returns-in-Ok-clause-punctuations
+returns-in-Ok-clause-punctuations g c = λ _ _ all t.
+    let a = (goal.at.returns-in-Ok-clause-punctuations g c).After-run_files in
     let files = files_named c.files_in-files.result.now (g.F.Folder.state c.prepare.new.folder) in
-    ran ArePunctuations (job g a) (call g a) files (g.K.Sink.state c.args.out.now) (g.K.Sink.state c.run_files.new.out) (read g a all.plan) (same g a) (c.in-Ok-run_files.ensures.lines (told g a all) t)
-    (outputs_puncts (job g a) files (new_planned c.in-Ok.ready.writing c.in-Ok.ready.core c.in-Ok.ensures.fresh) (report_of (job g a) files (outputs_of (job g a) files)))
+    ran ArePunctuations (job g a) (call g a) files (g.K.Sink.state c.args.out.now) (g.K.Sink.state c.run_files.new.out) (read g a all.plan) (same g a) (c.in-Ok.ensures.lines (told g a all) t)
+    (outputs_puncts (job g a) files (new_planned c.in-Ok-Run.ready.writing c.in-Ok-Run.ready.core (ready_run _ _ _ c.in-Ok-Run.ensures.ready c.in-Ok-Run.field-0-is).fresh) (report_of (job g a) files (outputs_of (job g a) files)))
 
-pub returns-in-Ok-run_files-clause-lawful : goal.returns-in-Ok-run_files-clause-lawful
-returns-in-Ok-run_files-clause-lawful g c = λ _ all t.
-    let a = (goal.at.returns-in-Ok-run_files-clause-lawful g c).After-run_files in
+pub returns-in-Ok-clause-lawful : goal.returns-in-Ok-clause-lawful
+returns-in-Ok-clause-lawful g c = λ _ _ all t.
+    let a = (goal.at.returns-in-Ok-clause-lawful g c).After-run_files in
     let files = files_named c.files_in-files.result.now (g.F.Folder.state c.prepare.new.folder) in
-    ran AreLawful (job g a) (call g a) files (g.K.Sink.state c.args.out.now) (g.K.Sink.state c.run_files.new.out) (read g a all.plan) (same g a) (c.in-Ok-run_files.ensures.lines (told g a all) t)
-    (outputs_lawful (job g a) files (new_planned c.in-Ok.ready.writing c.in-Ok.ready.core c.in-Ok.ensures.fresh))
+    ran AreLawful (job g a) (call g a) files (g.K.Sink.state c.args.out.now) (g.K.Sink.state c.run_files.new.out) (read g a all.plan) (same g a) (c.in-Ok.ensures.lines (told g a all) t)
+    (outputs_lawful (job g a) files (new_planned c.in-Ok-Run.ready.writing c.in-Ok-Run.ready.core (ready_run _ _ _ c.in-Ok-Run.ensures.ready c.in-Ok-Run.field-0-is).fresh))
 
-pub returns-in-Ok-run_files-clause-tallies : goal.returns-in-Ok-run_files-clause-tallies
-returns-in-Ok-run_files-clause-tallies g c = λ _ all t.
-    let a = (goal.at.returns-in-Ok-run_files-clause-tallies g c).After-run_files in
+pub returns-in-Ok-clause-tallies : goal.returns-in-Ok-clause-tallies
+returns-in-Ok-clause-tallies g c = λ _ _ all t.
+    let a = (goal.at.returns-in-Ok-clause-tallies g c).After-run_files in
     ran AreTallies (job g a) (call g a) (files_named c.files_in-files.result.now (g.F.Folder.state c.prepare.new.folder)) (g.K.Sink.state c.args.out.now) (g.K.Sink.state c.run_files.new.out) (read g a all.plan) (same g a)
-    (c.in-Ok-run_files.ensures.lines (told g a all) t) refl
+    (c.in-Ok.ensures.lines (told g a all) t) refl
 
-pub returns-in-Ok-run_files-clause-one_thread_bytes : goal.returns-in-Ok-run_files-clause-one_thread_bytes
-returns-in-Ok-run_files-clause-one_thread_bytes g c = λ _ all t.
-    let a = (goal.at.returns-in-Ok-run_files-clause-one_thread_bytes g c).After-run_files in
+pub returns-in-Ok-clause-one_thread_bytes : goal.returns-in-Ok-clause-one_thread_bytes
+returns-in-Ok-clause-one_thread_bytes g c = λ _ _ all t.
+    let a = (goal.at.returns-in-Ok-clause-one_thread_bytes g c).After-run_files in
     let before = (g.K.Sink.state c.args.out.now).written in
-    (job g a, read g a all.plan, c.in-Ok-run_files.ensures.lines (told g a all) t ∙ ap (λ (files : List (List ℕ)). before ++ flat (run_lines (job g a) files)) (same g a))
+    (job g a, read g a all.plan, c.in-Ok.ensures.lines (told g a all) t ∙ ap (λ (files : List (List ℕ)). before ++ flat (run_lines (job g a) files)) (same g a))
 
-pub returns-in-Ok-run_files-clause-read_to_end : goal.returns-in-Ok-run_files-clause-read_to_end
-returns-in-Ok-run_files-clause-read_to_end g c = λ _.
-    let a = (goal.at.returns-in-Ok-run_files-clause-read_to_end g c).After-run_files in
-    let e = c.in-Ok.ensures in
+pub returns-in-Ok-clause-read_to_end : goal.returns-in-Ok-clause-read_to_end
+returns-in-Ok-clause-read_to_end g c = λ _.
+    let a = (goal.at.returns-in-Ok-clause-read_to_end g c).After-run_files in
+    let e = c.in-Ok-Run.ensures in
     let first = operand (call g a).names 1 in
     all_read (call g a) c.files_in-files.result.now (g.F.Folder.state c.prepare.new.folder) (named g a) e.told e.contents (g.F.Folder.state c.run_files.new.folder)
     (λ t.
     let long = ap (λ (f : List ℕ → List ℕ). length (f first)) e.contents in
-    c.in-Ok-run_files.ensures.keeps first (subst (λ f. IsTrue (f first)) (sym e.told) t) (e.last t ∙ sym long) ∙ long)
-    c.in-Ok-run_files.ensures.last
+    c.in-Ok.ensures.keeps first (subst (λ f. IsTrue (f first)) (sym e.told) t) (e.last t ∙ sym long) ∙ long)
+    c.in-Ok.ensures.last
 
-pub returns-in-Ok-run_files-clause-never_retracted : goal.returns-in-Ok-run_files-clause-never_retracted
-returns-in-Ok-run_files-clause-never_retracted g c = λ all t.
-    let a = (goal.at.returns-in-Ok-run_files-clause-never_retracted g c).After-run_files in
+pub returns-in-Ok-clause-never_retracted : goal.returns-in-Ok-clause-never_retracted
+returns-in-Ok-clause-never_retracted g c = λ _ all t.
+    let a = (goal.at.returns-in-Ok-clause-never_retracted g c).After-run_files in
     let before = (g.K.Sink.state c.args.out.now).written in
-    never_done (job g a) (call g a) before _ (ready g a all.plan) (c.in-Ok-run_files.ensures.lines (told g a all) t ∙ ap (λ files. before ++ flat (run_lines (job g a) files)) (same g a))
+    never_done (job g a) (call g a) before _ (ready g a all.plan) (c.in-Ok.ensures.lines (told g a all) t ∙ ap (λ files. before ++ flat (run_lines (job g a) files)) (same g a))
 
-pub returns-in-Ok-run_files-clause-ending : goal.returns-in-Ok-run_files-clause-ending
-returns-in-Ok-run_files-clause-ending g c =
-    let a = (goal.at.returns-in-Ok-run_files-clause-ending g c).After-run_files in
-    let e = c.in-Ok.ensures in
+pub returns-in-Ok-clause-ending : goal.returns-in-Ok-clause-ending
+returns-in-Ok-clause-ending g c =
+    let a = (goal.at.returns-in-Ok-clause-ending g c).After-run_files in
+    let e = c.in-Ok-Run.ensures in
     ended_done (call g a) c.files_in-files.result.now (g.F.Folder.state c.prepare.new.folder) (g.F.Folder.state c.run_files.new.folder) (named g a) e.told e.contents e.other_last e.was_opened c.prepare.ensures.others (is_built g a)
-    (g.K.Sink.state c.args.out.now) (g.K.Sink.state c.run_files.new.out) c.in-Ok-run_files.ensures.opened c.run_files.ensures.others
+    (g.K.Sink.state c.args.out.now) (g.K.Sink.state c.run_files.new.out) c.in-Ok.ensures.opened c.run_files.ensures.others
 
-pub returns-in-Ok-run_files-clause-cause_of_done : goal.returns-in-Ok-run_files-clause-cause_of_done
-returns-in-Ok-run_files-clause-cause_of_done g c = λ _. is_built g (goal.at.returns-in-Ok-run_files-clause-cause_of_done g c).After-run_files
+pub returns-in-Ok-clause-cause_of_done : goal.returns-in-Ok-clause-cause_of_done
+returns-in-Ok-clause-cause_of_done g c = λ _. fits g (goal.at.returns-in-Ok-clause-cause_of_done g c).After-run_files
 
-pub returns-in-Ok-run_files-clause-refused : goal.returns-in-Ok-run_files-clause-refused
-returns-in-Ok-run_files-clause-refused g c =
-    let a = (goal.at.returns-in-Ok-run_files-clause-refused g c).After-run_files in
+pub returns-in-Ok-clause-refused : goal.returns-in-Ok-clause-refused
+returns-in-Ok-clause-refused g c =
+    let a = (goal.at.returns-in-Ok-clause-refused g c).After-run_files in
     answers_built (call g a) Done (is_built g a)
 
-pub returns-in-Ok-run_files-clause-usage : goal.returns-in-Ok-run_files-clause-usage
-returns-in-Ok-run_files-clause-usage g c = λ none. absurd (false≢true (sym none ∙ c.in-Ok.ensures.form.form))
+pub returns-in-Ok-clause-usage : goal.returns-in-Ok-clause-usage
+returns-in-Ok-clause-usage g c = λ none. absurd (false≢true (sym none ∙ ap takes_plan (ready_run _ _ _ c.in-Ok-Run.ensures.ready c.in-Ok-Run.field-0-is).form.form))
 
-pub returns-in-Ok-run_files-clause-completes : goal.returns-in-Ok-run_files-clause-completes
-returns-in-Ok-run_files-clause-completes g c = λ all built none room. inl refl
+pub returns-in-Ok-clause-completes : goal.returns-in-Ok-clause-completes
+returns-in-Ok-clause-completes g c = λ all built none room. inl refl
 
-pub returns-in-Ok-run_files-clause-handed_on : goal.returns-in-Ok-run_files-clause-handed_on
-returns-in-Ok-run_files-clause-handed_on g c = inl c.in-Ok-run_files.ensures.handed_on
+pub returns-in-Ok-clause-handed_on : goal.returns-in-Ok-clause-handed_on
+returns-in-Ok-clause-handed_on g c = inl c.in-Ok.ensures.handed_on
 
 -- ---- the run stopped
 
 pub status-status-requires : goal.status-status-requires
 status-status-requires g c =
-    let e = c.in-Ok.ensures in
+    let e = c.in-Ok-Run.ensures in
     let files = c.files_in-files.result.now in
-    of_few c.in-Err-run_files.stop (job_in c.in-Ok.ready.writing c.in-Ok.ready.core) files (g.F.Folder.state c.prepare.new.folder) (g.F.Folder.state c.run_files.new.folder) (g.K.Sink.state c.args.out.now) (g.K.Sink.state c.run_files.new.out)
-    (few_names c.in-Ok.ready.core.plan.nodes files e.fresh.sound (ap length (c.files_in-files.ensures (g.F.Folder.state c.args.folder.now)) ∙ e.count)) c.in-Err-run_files.ensures.causes
+    of_few c.in-Err-run_files.stop (job_in c.in-Ok-Run.ready.writing c.in-Ok-Run.ready.core) files (g.F.Folder.state c.prepare.new.folder) (g.F.Folder.state c.run_files.new.folder) (g.K.Sink.state c.args.out.now) (g.K.Sink.state c.run_files.new.out)
+    (few_names c.in-Ok-Run.ready.core.plan.nodes files (ready_run _ _ _ e.ready c.in-Ok-Run.field-0-is).fresh.sound (ap length (c.files_in-files.ensures (g.F.Folder.state c.args.folder.now)) ∙ (ready_run _ _ _ e.ready c.in-Ok-Run.field-0-is).count)) c.in-Err-run_files.ensures.causes
 
 pub write_stop-requires-clause-few : goal.write_stop-requires-clause-few
 write_stop-requires-clause-few g c =
-    let e = c.in-Ok.ensures in
+    let e = c.in-Ok-Run.ensures in
     let files = c.files_in-files.result.now in
-    of_few c.in-Err-run_files.stop (job_in c.in-Ok.ready.writing c.in-Ok.ready.core) files (g.F.Folder.state c.prepare.new.folder) (g.F.Folder.state c.run_files.new.folder) (g.K.Sink.state c.args.out.now) (g.K.Sink.state c.run_files.new.out)
-    (few_names c.in-Ok.ready.core.plan.nodes files e.fresh.sound (ap length (c.files_in-files.ensures (g.F.Folder.state c.args.folder.now)) ∙ e.count)) c.in-Err-run_files.ensures.causes
+    of_few c.in-Err-run_files.stop (job_in c.in-Ok-Run.ready.writing c.in-Ok-Run.ready.core) files (g.F.Folder.state c.prepare.new.folder) (g.F.Folder.state c.run_files.new.folder) (g.K.Sink.state c.args.out.now) (g.K.Sink.state c.run_files.new.out)
+    (few_names c.in-Ok-Run.ready.core.plan.nodes files (ready_run _ _ _ e.ready c.in-Ok-Run.field-0-is).fresh.sound (ap length (c.files_in-files.ensures (g.F.Folder.state c.args.folder.now)) ∙ (ready_run _ _ _ e.ready c.in-Ok-Run.field-0-is).count)) c.in-Err-run_files.ensures.causes
 
 pub write_stop-requires-clause-short : goal.write_stop-requires-clause-short
-write_stop-requires-clause-short g c = rw c.stop_name.ensures (stop_name_short c.plan.result.now.nodes c.status-status.result (subst HasShortNames (sym (c.plan.ensures ∙ ap (λ (p : RunPlan). p.nodes) c.in-Err-run_files.ensures.plan)) c.in-Ok.ensures.fresh.names))
+write_stop-requires-clause-short g c = rw c.stop_name.ensures (stop_name_short c.plan.result.now.nodes c.status-status.result (subst HasShortNames (sym (c.plan.ensures ∙ ap (λ (p : RunPlan). p.nodes) c.in-Err-run_files.ensures.plan)) (ready_run _ _ _ c.in-Ok-Run.ensures.ready c.in-Ok-Run.field-0-is).fresh.names))
 
 -- the name of the status' line
-is_name : (g : Over) (c : After-stop_name g) → c.stop_name.result.now ≡ stop_name c.in-Ok.ready.core.plan.nodes (files_status c.in-Err-run_files.stop)
+is_name : (g : Over) (c : After-stop_name g) → c.stop_name.result.now ≡ stop_name c.in-Ok-Run.ready.core.plan.nodes (files_status c.in-Err-run_files.stop)
 is_name g c =
     rw (sym c.status-status.ensures)
-    (c.stop_name.ensures ∙ stop_name_by c.plan.result.now.nodes c.in-Ok.ready.core.plan.nodes c.status-status.result (c.plan.ensures ∙ ap (λ (p : RunPlan). p.nodes) c.in-Err-run_files.ensures.plan))
+    (c.stop_name.ensures ∙ stop_name_by c.plan.result.now.nodes c.in-Ok-Run.ready.core.plan.nodes c.status-status.result (c.plan.ensures ∙ ap (λ (p : RunPlan). p.nodes) c.in-Err-run_files.ensures.plan))
 
-pub returns-in-Ok-clause-ending : goal.returns-in-Ok-clause-ending
-returns-in-Ok-clause-ending g c =
-    let at = goal.at.returns-in-Ok-clause-ending g c in
+pub returns-in-Ok-Run-clause-ending : goal.returns-in-Ok-Run-clause-ending
+returns-in-Ok-Run-clause-ending g c =
+    let at = goal.at.returns-in-Ok-Run-clause-ending g c in
     let a = at.After-run_files in
-    let e = c.in-Ok.ensures in
+    let e = c.in-Ok-Run.ensures in
     let r = c.in-Err-run_files.ensures in
     rw c.status-status.ensures
     (ended_stop (call g a) c.files_in-files.result.now (g.F.Folder.state c.prepare.new.folder) (g.F.Folder.state c.run_files.new.folder) (named g a) e.told e.contents e.other_last e.was_opened c.prepare.ensures.others (is_built g a)
@@ -173,91 +178,307 @@ returns-in-Ok-clause-ending g c =
     (λ opening is. ap g.K.Sink.state (r.unopened opening (ap Err is))) r.opened c.run_files.ensures.others r.causes
     (λ all t. r.lines (told g a all) (c.write_stop.ensures.told t)) (λ all t. r.ends (told g a all) (c.write_stop.ensures.told t)) r.later c.write_stop.ensures.later c.write_stop.ensures.line)
 
-pub returns-in-Ok-clause-never_retracted : goal.returns-in-Ok-clause-never_retracted
-returns-in-Ok-clause-never_retracted g c = λ all t.
-    let at = goal.at.returns-in-Ok-clause-never_retracted g c in
+pub returns-in-Ok-Run-clause-never_retracted : goal.returns-in-Ok-Run-clause-never_retracted
+returns-in-Ok-Run-clause-never_retracted g c = λ _ all t.
+    let at = goal.at.returns-in-Ok-Run-clause-never_retracted g c in
     let a = at.After-run_files in
     let before = (g.K.Sink.state c.args.out.now).written in
     never_stopped c.in-Err-run_files.stop (job g a) (call g a) c.stop_name.result.now before (g.K.Sink.state c.run_files.new.out) (g.K.Sink.state c.write_stop.new.out) t (ready g a all.plan) (is_name g at.After-stop_name)
     (subst (λ files. Leaves (files_cut c.in-Err-run_files.stop) (run_lines (job g a) files) before (g.K.Sink.state c.run_files.new.out).written) (same g a) (c.in-Err-run_files.ensures.lines (told g a all) (c.write_stop.ensures.told t)))
     c.write_stop.ensures.line
 
-pub returns-in-Ok-clause-handed_on : goal.returns-in-Ok-clause-handed_on
-returns-in-Ok-clause-handed_on g c =
-    stop_handed c.in-Err-run_files.stop (job_in c.in-Ok.ready.writing c.in-Ok.ready.core) c.files_in-files.result.now (g.F.Folder.state c.prepare.new.folder) (g.F.Folder.state c.run_files.new.folder) (g.K.Sink.state c.args.out.now) (g.K.Sink.state c.run_files.new.out) (g.K.Sink.state c.write_stop.new.out)
+pub returns-in-Ok-Run-clause-handed_on : goal.returns-in-Ok-Run-clause-handed_on
+returns-in-Ok-Run-clause-handed_on g c =
+    stop_handed c.in-Err-run_files.stop (job_in c.in-Ok-Run.ready.writing c.in-Ok-Run.ready.core) c.files_in-files.result.now (g.F.Folder.state c.prepare.new.folder) (g.F.Folder.state c.run_files.new.folder) (g.K.Sink.state c.args.out.now) (g.K.Sink.state c.run_files.new.out) (g.K.Sink.state c.write_stop.new.out)
     c.in-Err-run_files.ensures.causes c.in-Err-run_files.ensures.later c.write_stop.ensures.later c.write_stop.ensures.handed_on
 
-pub returns-in-Ok-clause-cause_of_open_fault : goal.returns-in-Ok-clause-cause_of_open_fault
-returns-in-Ok-clause-cause_of_open_fault g c = λ n is.
-    let a = (goal.at.returns-in-Ok-clause-cause_of_open_fault g c).After-run_files in
-    let e = c.in-Ok.ensures in
+pub returns-in-Ok-Run-clause-cause_of_open_fault : goal.returns-in-Ok-Run-clause-cause_of_open_fault
+returns-in-Ok-Run-clause-cause_of_open_fault g c = λ n is.
+    let a = (goal.at.returns-in-Ok-Run-clause-cause_of_open_fault g c).After-run_files in
+    let e = c.in-Ok-Run.ensures in
     unopened (call g a) c.files_in-files.result.now (g.F.Folder.state c.prepare.new.folder) (g.F.Folder.state c.run_files.new.folder) (named g a) e.told e.contents e.other_last e.later c.in-Err-run_files.stop (job g a) (g.K.Sink.state c.args.out.now) (g.K.Sink.state c.run_files.new.out) n
     (is_built g a) e.was_opened c.in-Err-run_files.ensures.causes c.in-Err-run_files.ensures.opened (sym c.status-status.ensures ∙ is)
 
-pub returns-in-Ok-clause-cause_of_read_fault : goal.returns-in-Ok-clause-cause_of_read_fault
-returns-in-Ok-clause-cause_of_read_fault g c = λ n is.
-    let a = (goal.at.returns-in-Ok-clause-cause_of_read_fault g c).After-run_files in
-    let e = c.in-Ok.ensures in
+pub returns-in-Ok-Run-clause-cause_of_read_fault : goal.returns-in-Ok-Run-clause-cause_of_read_fault
+returns-in-Ok-Run-clause-cause_of_read_fault g c = λ n is.
+    let a = (goal.at.returns-in-Ok-Run-clause-cause_of_read_fault g c).After-run_files in
+    let e = c.in-Ok-Run.ensures in
     faulted (call g a) c.files_in-files.result.now (g.F.Folder.state c.prepare.new.folder) (g.F.Folder.state c.run_files.new.folder) (named g a) e.told e.contents e.other_last e.later c.in-Err-run_files.stop (job g a) (g.K.Sink.state c.args.out.now) (g.K.Sink.state c.run_files.new.out) n
     (is_built g a) c.in-Err-run_files.ensures.causes (sym c.status-status.ensures ∙ is)
 
-pub returns-in-Ok-clause-cause_of_write_fault : goal.returns-in-Ok-clause-cause_of_write_fault
-returns-in-Ok-clause-cause_of_write_fault g c = λ is.
-    let a = (goal.at.returns-in-Ok-clause-cause_of_write_fault g c).After-run_files in
-    let e = c.in-Ok.ensures in (
+pub returns-in-Ok-Run-clause-cause_of_write_fault : goal.returns-in-Ok-Run-clause-cause_of_write_fault
+returns-in-Ok-Run-clause-cause_of_write_fault g c = λ is.
+    let a = (goal.at.returns-in-Ok-Run-clause-cause_of_write_fault g c).After-run_files in
+    let e = c.in-Ok-Run.ensures in (
       write_failed (call g a) c.files_in-files.result.now (g.F.Folder.state c.prepare.new.folder) (g.F.Folder.state c.run_files.new.folder) (named g a) e.told e.contents e.other_last c.in-Err-run_files.stop (job g a) (g.K.Sink.state c.args.out.now) (g.K.Sink.state c.run_files.new.out) (g.K.Sink.state c.write_stop.new.out)
           c.in-Err-run_files.ensures.causes c.write_stop.ensures.later (sym c.status-status.ensures ∙ is),
-      is_built g a,
+      fits g a,
     )
 
-pub returns-in-Ok-clause-cause_of_limit : goal.returns-in-Ok-clause-cause_of_limit
-returns-in-Ok-clause-cause_of_limit g c = λ node is.
-    let a = (goal.at.returns-in-Ok-clause-cause_of_limit g c).After-run_files in
-    let e = c.in-Ok.ensures in
+pub returns-in-Ok-Run-clause-cause_of_limit : goal.returns-in-Ok-Run-clause-cause_of_limit
+returns-in-Ok-Run-clause-cause_of_limit g c = λ node is.
+    let a = (goal.at.returns-in-Ok-Run-clause-cause_of_limit g c).After-run_files in
+    let e = c.in-Ok-Run.ensures in
     beyond (call g a) c.files_in-files.result.now (g.F.Folder.state c.prepare.new.folder) (g.F.Folder.state c.run_files.new.folder) (named g a) e.told e.contents e.other_last c.in-Err-run_files.stop (job g a) (g.K.Sink.state c.args.out.now) (g.K.Sink.state c.run_files.new.out) node
     (is_built g a) (read g a) c.in-Err-run_files.ensures.causes (sym c.status-status.ensures ∙ is)
 
-pub returns-in-Ok-clause-cause_of_file_limit : goal.returns-in-Ok-clause-cause_of_file_limit
-returns-in-Ok-clause-cause_of_file_limit g c = λ stream is.
-    let a = (goal.at.returns-in-Ok-clause-cause_of_file_limit g c).After-run_files in
-    let e = c.in-Ok.ensures in
+pub returns-in-Ok-Run-clause-cause_of_file_limit : goal.returns-in-Ok-Run-clause-cause_of_file_limit
+returns-in-Ok-Run-clause-cause_of_file_limit g c = λ stream is.
+    let a = (goal.at.returns-in-Ok-Run-clause-cause_of_file_limit g c).After-run_files in
+    let e = c.in-Ok-Run.ensures in
     too_large (call g a) c.files_in-files.result.now (g.F.Folder.state c.prepare.new.folder) (g.F.Folder.state c.run_files.new.folder) (named g a) e.told e.contents e.other_last c.in-Err-run_files.stop (job g a) (g.K.Sink.state c.args.out.now) (g.K.Sink.state c.run_files.new.out) stream
     (is_built g a) c.in-Err-run_files.ensures.causes (sym c.status-status.ensures ∙ is)
 
-pub returns-in-Ok-clause-refused : goal.returns-in-Ok-clause-refused
-returns-in-Ok-clause-refused g c =
-    let a = (goal.at.returns-in-Ok-clause-refused g c).After-run_files in
+pub returns-in-Ok-Run-clause-refused : goal.returns-in-Ok-Run-clause-refused
+returns-in-Ok-Run-clause-refused g c =
+    let a = (goal.at.returns-in-Ok-Run-clause-refused g c).After-run_files in
     answers_built (call g a) c.status-status.result (is_built g a)
 
-pub returns-in-Ok-clause-usage : goal.returns-in-Ok-clause-usage
-returns-in-Ok-clause-usage g c = λ none. absurd (false≢true (sym none ∙ c.in-Ok.ensures.form.form))
+pub returns-in-Ok-Run-clause-usage : goal.returns-in-Ok-Run-clause-usage
+returns-in-Ok-Run-clause-usage g c = λ none. absurd (false≢true (sym none ∙ ap takes_plan (ready_run _ _ _ c.in-Ok-Run.ensures.ready c.in-Ok-Run.field-0-is).form.form))
 
-pub returns-in-Ok-clause-cause_of_usage : goal.returns-in-Ok-clause-cause_of_usage
-returns-in-Ok-clause-cause_of_usage g c = λ is. absurd (usage_never c.in-Err-run_files.stop (sym c.status-status.ensures ∙ is))
+pub returns-in-Ok-Run-clause-cause_of_usage : goal.returns-in-Ok-Run-clause-cause_of_usage
+returns-in-Ok-Run-clause-cause_of_usage g c = λ is. absurd (usage_never c.in-Err-run_files.stop (sym c.status-status.ensures ∙ is))
 
-pub returns-in-Ok-clause-cause_of_plan_limit : goal.returns-in-Ok-clause-cause_of_plan_limit
-returns-in-Ok-clause-cause_of_plan_limit g c = λ is. absurd (refused_never c.in-Err-run_files.stop (Limit Plan) (sym c.status-status.ensures ∙ is) tt)
+pub returns-in-Ok-Run-clause-cause_of_plan_limit : goal.returns-in-Ok-Run-clause-cause_of_plan_limit
+returns-in-Ok-Run-clause-cause_of_plan_limit g c = λ is. absurd (refused_never c.in-Err-run_files.stop (Limit Plan) (sym c.status-status.ensures ∙ is) tt)
 
-pub returns-in-Ok-clause-cause_of_plan_refused : goal.returns-in-Ok-clause-cause_of_plan_refused
-returns-in-Ok-clause-cause_of_plan_refused g c = λ line why is. absurd (refused_never c.in-Err-run_files.stop (PlanRefused line why) (sym c.status-status.ensures ∙ is) tt)
+pub returns-in-Ok-Run-clause-cause_of_plan_refused : goal.returns-in-Ok-Run-clause-cause_of_plan_refused
+returns-in-Ok-Run-clause-cause_of_plan_refused g c = λ line why is. absurd (refused_never c.in-Err-run_files.stop (PlanRefused line why) (sym c.status-status.ensures ∙ is) tt)
 
-pub returns-in-Ok-clause-cause_of_file_count : goal.returns-in-Ok-clause-cause_of_file_count
-returns-in-Ok-clause-cause_of_file_count g c = λ want got is. absurd (refused_never c.in-Err-run_files.stop (FileCount want got) (sym c.status-status.ensures ∙ is) tt)
+pub returns-in-Ok-Run-clause-cause_of_file_count : goal.returns-in-Ok-Run-clause-cause_of_file_count
+returns-in-Ok-Run-clause-cause_of_file_count g c = λ want got is. absurd (refused_never c.in-Err-run_files.stop (FileCount want got) (sym c.status-status.ensures ∙ is) tt)
 
-pub returns-in-Ok-clause-cause_of_unsafe : goal.returns-in-Ok-clause-cause_of_unsafe
-returns-in-Ok-clause-cause_of_unsafe g c = λ node risk is. absurd (refused_never c.in-Err-run_files.stop (Unsafe node risk) (sym c.status-status.ensures ∙ is) tt)
+pub returns-in-Ok-Run-clause-cause_of_unsafe : goal.returns-in-Ok-Run-clause-cause_of_unsafe
+returns-in-Ok-Run-clause-cause_of_unsafe g c = λ node risk is. absurd (refused_never c.in-Err-run_files.stop (Unsafe node risk) (sym c.status-status.ensures ∙ is) tt)
 
-pub returns-in-Ok-clause-completes : goal.returns-in-Ok-clause-completes
-returns-in-Ok-clause-completes g c =
+pub returns-in-Ok-Run-clause-completes : goal.returns-in-Ok-Run-clause-completes
+returns-in-Ok-Run-clause-completes g c =
     completes_by c.status-status.result (call_for c.args.request.now (g.F.Folder.state c.args.folder.now)) (g.F.Folder.state c.run_files.new.folder) (g.K.Sink.state c.args.out.now) (g.K.Sink.state c.write_stop.new.out)
     (record {
-      usage = returns-in-Ok-clause-cause_of_usage g c;
+      usage = returns-in-Ok-Run-clause-cause_of_usage g c;
       refused = λ status is of. absurd (refused_never c.in-Err-run_files.stop status (sym c.status-status.ensures ∙ is) of);
-      open_fault = returns-in-Ok-clause-cause_of_open_fault g c;
-      read_fault = returns-in-Ok-clause-cause_of_read_fault g c;
-      write_fault = returns-in-Ok-clause-cause_of_write_fault g c;
-      limit = returns-in-Ok-clause-cause_of_limit g c;
-      file_limit = returns-in-Ok-clause-cause_of_file_limit g c;
+      open_fault = returns-in-Ok-Run-clause-cause_of_open_fault g c;
+      read_fault = returns-in-Ok-Run-clause-cause_of_read_fault g c;
+      write_fault = returns-in-Ok-Run-clause-cause_of_write_fault g c;
+      limit = returns-in-Ok-Run-clause-cause_of_limit g c;
+      file_limit = returns-in-Ok-Run-clause-cause_of_file_limit g c;
+    })
+
+-- ---- the plan was checked
+
+pub returns-in-Ok-Check-clause-answer : goal.returns-in-Ok-Check-clause-answer
+returns-in-Ok-Check-clause-answer g c = λ runs.
+    let call = call_for c.args.request.now (g.F.Folder.state c.args.folder.now) in
+    let r = c.in-Ok-Check.ensures in
+    let first = g.K.Sink.state c.args.out.now in
+    let after = g.K.Sink.state c.write_verdict.new.out in
+    let v = c.write_verdict.ensures.verdict in
+    absurd (never_runs call c.in-Ok-Check.print c.in-Ok-Check.plan (ready_check _ _ _ _ r.ready c.in-Ok-Check.field-0-is) first after runs)
+
+pub returns-in-Ok-Check-clause-punctuations : goal.returns-in-Ok-Check-clause-punctuations
+returns-in-Ok-Check-clause-punctuations g c = λ runs.
+    let call = call_for c.args.request.now (g.F.Folder.state c.args.folder.now) in
+    let r = c.in-Ok-Check.ensures in
+    let first = g.K.Sink.state c.args.out.now in
+    let after = g.K.Sink.state c.write_verdict.new.out in
+    let v = c.write_verdict.ensures.verdict in
+    absurd (never_runs call c.in-Ok-Check.print c.in-Ok-Check.plan (ready_check _ _ _ _ r.ready c.in-Ok-Check.field-0-is) first after runs)
+
+pub returns-in-Ok-Check-clause-lawful : goal.returns-in-Ok-Check-clause-lawful
+returns-in-Ok-Check-clause-lawful g c = λ runs.
+    let call = call_for c.args.request.now (g.F.Folder.state c.args.folder.now) in
+    let r = c.in-Ok-Check.ensures in
+    let first = g.K.Sink.state c.args.out.now in
+    let after = g.K.Sink.state c.write_verdict.new.out in
+    let v = c.write_verdict.ensures.verdict in
+    absurd (never_runs call c.in-Ok-Check.print c.in-Ok-Check.plan (ready_check _ _ _ _ r.ready c.in-Ok-Check.field-0-is) first after runs)
+
+pub returns-in-Ok-Check-clause-one_thread_bytes : goal.returns-in-Ok-Check-clause-one_thread_bytes
+returns-in-Ok-Check-clause-one_thread_bytes g c = λ runs.
+    let call = call_for c.args.request.now (g.F.Folder.state c.args.folder.now) in
+    let r = c.in-Ok-Check.ensures in
+    let first = g.K.Sink.state c.args.out.now in
+    let after = g.K.Sink.state c.write_verdict.new.out in
+    let v = c.write_verdict.ensures.verdict in
+    absurd (never_runs call c.in-Ok-Check.print c.in-Ok-Check.plan (ready_check _ _ _ _ r.ready c.in-Ok-Check.field-0-is) first after runs)
+
+pub returns-in-Ok-Check-clause-tallies : goal.returns-in-Ok-Check-clause-tallies
+returns-in-Ok-Check-clause-tallies g c = λ runs.
+    let call = call_for c.args.request.now (g.F.Folder.state c.args.folder.now) in
+    let r = c.in-Ok-Check.ensures in
+    let first = g.K.Sink.state c.args.out.now in
+    let after = g.K.Sink.state c.write_verdict.new.out in
+    let v = c.write_verdict.ensures.verdict in
+    absurd (never_runs call c.in-Ok-Check.print c.in-Ok-Check.plan (ready_check _ _ _ _ r.ready c.in-Ok-Check.field-0-is) first after runs)
+
+pub returns-in-Ok-Check-clause-read_to_end : goal.returns-in-Ok-Check-clause-read_to_end
+returns-in-Ok-Check-clause-read_to_end g c = λ _.
+    let call = call_for c.args.request.now (g.F.Folder.state c.args.folder.now) in
+    let r = c.in-Ok-Check.ensures in
+    let first = g.K.Sink.state c.args.out.now in
+    let after = g.K.Sink.state c.write_verdict.new.out in
+    let v = c.write_verdict.ensures.verdict in
+    read_alone call c.in-Ok-Check.print c.in-Ok-Check.plan (ready_check _ _ _ _ r.ready c.in-Ok-Check.field-0-is) first after (g.F.Folder.state c.prepare.new.folder) r.last
+
+pub returns-in-Ok-Check-clause-ending : goal.returns-in-Ok-Check-clause-ending
+returns-in-Ok-Check-clause-ending g c =
+    let call = call_for c.args.request.now (g.F.Folder.state c.args.folder.now) in
+    let r = c.in-Ok-Check.ensures in
+    let first = g.K.Sink.state c.args.out.now in
+    let after = g.K.Sink.state c.write_verdict.new.out in
+    let v = c.write_verdict.ensures.verdict in
+    ended_verdict call c.in-Ok-Check.print c.in-Ok-Check.plan (ready_check _ _ _ _ r.ready c.in-Ok-Check.field-0-is) first after c.write_verdict.result (g.F.Folder.state c.prepare.new.folder) v r.was_opened c.prepare.ensures.others
+
+pub returns-in-Ok-Check-clause-never_retracted : goal.returns-in-Ok-Check-clause-never_retracted
+returns-in-Ok-Check-clause-never_retracted g c = λ no.
+    let call = call_for c.args.request.now (g.F.Folder.state c.args.folder.now) in
+    let r = c.in-Ok-Check.ensures in
+    let first = g.K.Sink.state c.args.out.now in
+    let after = g.K.Sink.state c.write_verdict.new.out in
+    let v = c.write_verdict.ensures.verdict in
+    absurd (subst IsNoCheck (ready_check _ _ _ _ r.ready c.in-Ok-Check.field-0-is).task no)
+
+pub returns-in-Ok-Check-clause-handed_on : goal.returns-in-Ok-Check-clause-handed_on
+returns-in-Ok-Check-clause-handed_on g c =
+    let call = call_for c.args.request.now (g.F.Folder.state c.args.folder.now) in
+    let r = c.in-Ok-Check.ensures in
+    let first = g.K.Sink.state c.args.out.now in
+    let after = g.K.Sink.state c.write_verdict.new.out in
+    let v = c.write_verdict.ensures.verdict in
+    c.write_verdict.ensures.handed_on
+
+pub returns-in-Ok-Check-clause-cause_of_done : goal.returns-in-Ok-Check-clause-cause_of_done
+returns-in-Ok-Check-clause-cause_of_done g c = λ is.
+    let call = call_for c.args.request.now (g.F.Folder.state c.args.folder.now) in
+    let r = c.in-Ok-Check.ensures in
+    let first = g.K.Sink.state c.args.out.now in
+    let after = g.K.Sink.state c.write_verdict.new.out in
+    let v = c.write_verdict.ensures.verdict in
+    done_fits call c.in-Ok-Check.print c.in-Ok-Check.plan (ready_check _ _ _ _ r.ready c.in-Ok-Check.field-0-is) first after c.write_verdict.result v is
+
+pub returns-in-Ok-Check-clause-cause_of_usage : goal.returns-in-Ok-Check-clause-cause_of_usage
+returns-in-Ok-Check-clause-cause_of_usage g c = λ is.
+    let call = call_for c.args.request.now (g.F.Folder.state c.args.folder.now) in
+    let r = c.in-Ok-Check.ensures in
+    let first = g.K.Sink.state c.args.out.now in
+    let after = g.K.Sink.state c.write_verdict.new.out in
+    let v = c.write_verdict.ensures.verdict in
+    absurd (verdict_never call c.in-Ok-Check.print c.in-Ok-Check.plan (ready_check _ _ _ _ r.ready c.in-Ok-Check.field-0-is) first after c.write_verdict.result Usage v is tt)
+
+pub returns-in-Ok-Check-clause-usage : goal.returns-in-Ok-Check-clause-usage
+returns-in-Ok-Check-clause-usage g c = λ none.
+    let call = call_for c.args.request.now (g.F.Folder.state c.args.folder.now) in
+    let r = c.in-Ok-Check.ensures in
+    let first = g.K.Sink.state c.args.out.now in
+    let after = g.K.Sink.state c.write_verdict.new.out in
+    let v = c.write_verdict.ensures.verdict in
+    absurd (false≢true (sym none ∙ takes call c.in-Ok-Check.print c.in-Ok-Check.plan (ready_check _ _ _ _ r.ready c.in-Ok-Check.field-0-is) first after))
+
+pub returns-in-Ok-Check-clause-cause_of_plan_limit : goal.returns-in-Ok-Check-clause-cause_of_plan_limit
+returns-in-Ok-Check-clause-cause_of_plan_limit g c = λ is.
+    let call = call_for c.args.request.now (g.F.Folder.state c.args.folder.now) in
+    let r = c.in-Ok-Check.ensures in
+    let first = g.K.Sink.state c.args.out.now in
+    let after = g.K.Sink.state c.write_verdict.new.out in
+    let v = c.write_verdict.ensures.verdict in
+    absurd (verdict_never call c.in-Ok-Check.print c.in-Ok-Check.plan (ready_check _ _ _ _ r.ready c.in-Ok-Check.field-0-is) first after c.write_verdict.result (Limit Plan) v is tt)
+
+pub returns-in-Ok-Check-clause-cause_of_plan_refused : goal.returns-in-Ok-Check-clause-cause_of_plan_refused
+returns-in-Ok-Check-clause-cause_of_plan_refused g c = λ line why is.
+    let call = call_for c.args.request.now (g.F.Folder.state c.args.folder.now) in
+    let r = c.in-Ok-Check.ensures in
+    let first = g.K.Sink.state c.args.out.now in
+    let after = g.K.Sink.state c.write_verdict.new.out in
+    let v = c.write_verdict.ensures.verdict in
+    absurd (verdict_never call c.in-Ok-Check.print c.in-Ok-Check.plan (ready_check _ _ _ _ r.ready c.in-Ok-Check.field-0-is) first after c.write_verdict.result (PlanRefused line why) v is tt)
+
+pub returns-in-Ok-Check-clause-cause_of_file_count : goal.returns-in-Ok-Check-clause-cause_of_file_count
+returns-in-Ok-Check-clause-cause_of_file_count g c = λ want got is.
+    let call = call_for c.args.request.now (g.F.Folder.state c.args.folder.now) in
+    let r = c.in-Ok-Check.ensures in
+    let first = g.K.Sink.state c.args.out.now in
+    let after = g.K.Sink.state c.write_verdict.new.out in
+    let v = c.write_verdict.ensures.verdict in
+    absurd (verdict_never call c.in-Ok-Check.print c.in-Ok-Check.plan (ready_check _ _ _ _ r.ready c.in-Ok-Check.field-0-is) first after c.write_verdict.result (FileCount want got) v is tt)
+
+pub returns-in-Ok-Check-clause-cause_of_unsafe : goal.returns-in-Ok-Check-clause-cause_of_unsafe
+returns-in-Ok-Check-clause-cause_of_unsafe g c = λ node risk is.
+    let call = call_for c.args.request.now (g.F.Folder.state c.args.folder.now) in
+    let r = c.in-Ok-Check.ensures in
+    let first = g.K.Sink.state c.args.out.now in
+    let after = g.K.Sink.state c.write_verdict.new.out in
+    let v = c.write_verdict.ensures.verdict in
+    unsafe_found call c.in-Ok-Check.print c.in-Ok-Check.plan (ready_check _ _ _ _ r.ready c.in-Ok-Check.field-0-is) first after c.write_verdict.result node risk v is
+
+pub returns-in-Ok-Check-clause-refused : goal.returns-in-Ok-Check-clause-refused
+returns-in-Ok-Check-clause-refused g c =
+    let call = call_for c.args.request.now (g.F.Folder.state c.args.folder.now) in
+    let r = c.in-Ok-Check.ensures in
+    let first = g.K.Sink.state c.args.out.now in
+    let after = g.K.Sink.state c.write_verdict.new.out in
+    let v = c.write_verdict.ensures.verdict in
+    answers_verdict call c.in-Ok-Check.print c.in-Ok-Check.plan (ready_check _ _ _ _ r.ready c.in-Ok-Check.field-0-is) first after c.write_verdict.result v
+
+pub returns-in-Ok-Check-clause-cause_of_open_fault : goal.returns-in-Ok-Check-clause-cause_of_open_fault
+returns-in-Ok-Check-clause-cause_of_open_fault g c = λ n is.
+    let call = call_for c.args.request.now (g.F.Folder.state c.args.folder.now) in
+    let r = c.in-Ok-Check.ensures in
+    let first = g.K.Sink.state c.args.out.now in
+    let after = g.K.Sink.state c.write_verdict.new.out in
+    let v = c.write_verdict.ensures.verdict in
+    absurd (verdict_never call c.in-Ok-Check.print c.in-Ok-Check.plan (ready_check _ _ _ _ r.ready c.in-Ok-Check.field-0-is) first after c.write_verdict.result (OpenFault n) v is tt)
+
+pub returns-in-Ok-Check-clause-cause_of_read_fault : goal.returns-in-Ok-Check-clause-cause_of_read_fault
+returns-in-Ok-Check-clause-cause_of_read_fault g c = λ n is.
+    let call = call_for c.args.request.now (g.F.Folder.state c.args.folder.now) in
+    let r = c.in-Ok-Check.ensures in
+    let first = g.K.Sink.state c.args.out.now in
+    let after = g.K.Sink.state c.write_verdict.new.out in
+    let v = c.write_verdict.ensures.verdict in
+    absurd (verdict_never call c.in-Ok-Check.print c.in-Ok-Check.plan (ready_check _ _ _ _ r.ready c.in-Ok-Check.field-0-is) first after c.write_verdict.result (ReadFault n) v is tt)
+
+pub returns-in-Ok-Check-clause-cause_of_write_fault : goal.returns-in-Ok-Check-clause-cause_of_write_fault
+returns-in-Ok-Check-clause-cause_of_write_fault g c = λ is.
+    let call = call_for c.args.request.now (g.F.Folder.state c.args.folder.now) in
+    let r = c.in-Ok-Check.ensures in
+    let first = g.K.Sink.state c.args.out.now in
+    let after = g.K.Sink.state c.write_verdict.new.out in
+    let v = c.write_verdict.ensures.verdict in
+    write_fits call c.in-Ok-Check.print c.in-Ok-Check.plan (ready_check _ _ _ _ r.ready c.in-Ok-Check.field-0-is) first after c.write_verdict.result v is
+
+pub returns-in-Ok-Check-clause-cause_of_limit : goal.returns-in-Ok-Check-clause-cause_of_limit
+returns-in-Ok-Check-clause-cause_of_limit g c = λ node is.
+    let call = call_for c.args.request.now (g.F.Folder.state c.args.folder.now) in
+    let r = c.in-Ok-Check.ensures in
+    let first = g.K.Sink.state c.args.out.now in
+    let after = g.K.Sink.state c.write_verdict.new.out in
+    let v = c.write_verdict.ensures.verdict in
+    absurd (verdict_never call c.in-Ok-Check.print c.in-Ok-Check.plan (ready_check _ _ _ _ r.ready c.in-Ok-Check.field-0-is) first after c.write_verdict.result (Limit (Node node)) v is tt)
+
+pub returns-in-Ok-Check-clause-cause_of_file_limit : goal.returns-in-Ok-Check-clause-cause_of_file_limit
+returns-in-Ok-Check-clause-cause_of_file_limit g c = λ stream is.
+    let call = call_for c.args.request.now (g.F.Folder.state c.args.folder.now) in
+    let r = c.in-Ok-Check.ensures in
+    let first = g.K.Sink.state c.args.out.now in
+    let after = g.K.Sink.state c.write_verdict.new.out in
+    let v = c.write_verdict.ensures.verdict in
+    absurd (verdict_never call c.in-Ok-Check.print c.in-Ok-Check.plan (ready_check _ _ _ _ r.ready c.in-Ok-Check.field-0-is) first after c.write_verdict.result (Limit (File stream)) v is tt)
+
+pub returns-in-Ok-Check-clause-completes : goal.returns-in-Ok-Check-clause-completes
+returns-in-Ok-Check-clause-completes g c =
+    let call = call_for c.args.request.now (g.F.Folder.state c.args.folder.now) in
+    let first = g.K.Sink.state c.args.out.now in
+    let after = g.K.Sink.state c.write_verdict.new.out in
+    completes_by c.write_verdict.result call (g.F.Folder.state c.prepare.new.folder) first after
+    (record {
+      usage = returns-in-Ok-Check-clause-cause_of_usage g c;
+      refused = λ status is of. verdict_refused call c.in-Ok-Check.print c.in-Ok-Check.plan (ready_check _ _ _ _ c.in-Ok-Check.ensures.ready c.in-Ok-Check.field-0-is) first after c.write_verdict.result status c.write_verdict.ensures.verdict is of;
+      open_fault = returns-in-Ok-Check-clause-cause_of_open_fault g c;
+      read_fault = returns-in-Ok-Check-clause-cause_of_read_fault g c;
+      write_fault = returns-in-Ok-Check-clause-cause_of_write_fault g c;
+      limit = returns-in-Ok-Check-clause-cause_of_limit g c;
+      file_limit = returns-in-Ok-Check-clause-cause_of_file_limit g c;
     })
 
 -- ---- the plan was not had
@@ -269,7 +490,7 @@ returns-clause-ending g c =
     c.in-Err.stop c.in-Err.ensures.some_opened c.in-Err.ensures.cause c.write_refusal.ensures.lines)
 
 pub returns-clause-never_retracted : goal.returns-clause-never_retracted
-returns-clause-never_retracted g c = λ all t.
+returns-clause-never_retracted g c = λ _ all t.
     let call = call_for c.args.request.now (g.F.Folder.state c.args.folder.now) in
     never_early c.in-Err.stop call (g.K.Sink.state c.args.out.now) (g.K.Sink.state c.write_refusal.new.out) t (early_lines c.in-Err.stop call (g.F.Folder.state c.prepare.new.folder) c.in-Err.ensures.cause) c.write_refusal.ensures.lines
 

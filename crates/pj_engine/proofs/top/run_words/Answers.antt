@@ -85,9 +85,9 @@ returns-in-Ok-clause-completes g c = said g (goal.at.returns-in-Ok-clause-comple
 -- ---- other words: the line of their status spells no element
 
 pub returns-in-Err-Usage-clause-never_retracted : goal.returns-in-Err-Usage-clause-never_retracted
-returns-in-Err-Usage-clause-never_retracted g c = λ all t.
+returns-in-Err-Usage-clause-never_retracted g c = λ _ all t.
     never_early NoWords (call_of c.args.words.now (g.F.Folder.state c.args.folder.now)) (g.K.Sink.state c.args.out.now) (g.K.Sink.state c.write_status.new.out) t tt c.write_status.ensures.line
 
 pub returns-in-Err-NoMemory-clause-never_retracted : goal.returns-in-Err-NoMemory-clause-never_retracted
-returns-in-Err-NoMemory-clause-never_retracted g c = λ all t.
+returns-in-Err-NoMemory-clause-never_retracted g c = λ _ all t.
     never_early PlanMemory (call_of c.args.words.now (g.F.Folder.state c.args.folder.now)) (g.K.Sink.state c.args.out.now) (g.K.Sink.state c.write_status-in-Err-NoMemory.new.out) t tt c.write_status-in-Err-NoMemory.ensures.line
