@@ -20,11 +20,13 @@ use Rattle.pj_run.specs.declared.stops.RunStop.TheVariants.{ReadFault as RunFaul
 use Rattle.pj_events.specs.declared.events.Stop.TheVariants.{Limit as CoreLimit, NoMemory as CoreMemory}
 use Rattle.pj_alone.specs.declared.stops.FileStop.TheVariants.{OpenFault as NotOpened, ReadFault as NotRead, TooLong, NoMemory as FileMemory}
 use Rattle.pj_alone.specs.declared.stops.PlanStop.{PlanStop}
-use Rattle.pj_alone.specs.declared.stops.PlanStop.TheVariants.{Usage as NoWords, File as PlanFile, Refused, FileCount as OtherCount, Unsafe as Stuck, NoMemory as PlanMemory}
+use Rattle.pj_alone.specs.declared.stops.PlanStop.TheVariants.{Usage as NoPlan, File as PlanFile, Refused, FileCount as OtherCount, Unsafe as Stuck, NoMemory as PlanMemory}
 use Rattle.pj_alone.specs.Calls.{nothing, running, checking, takes_plan, Task, Call, HasToldPlan, operand, file_names, files_asked, files_for, plan_bytes}
 use Rattle.pj_alone.specs.Plans.{plan_of}
 use Rattle.pj_feed.specs.Opened.{OpensFirst, OpensAtMost, StayOutside}
-use Rattle.pj_alone.specs.Refusals.{HasLines, HasPlan, HasStreams, IsRefused, Refuses, RefusesBytes, RefusesPlan, RefusesRead, Unprepared}
+use Rattle.pj_judge.specs.declared.safety.Unsafe.{Unsafe as Found}
+use Rattle.pj_judge.specs.Judgments.{AreUnsafeLines}
+use Rattle.pj_alone.specs.Refusals.{HasLines, HasPlan, HasStreams, PlanUnfit, IsRefused, Refuses, RefusesBytes, RefusesPlan, RefusesRead, Unprepared}
 use Rattle.pj_alone.specs.Stops.{plan_status, refusal_text}
 use Rattle.pj_run.specs.Stops.{files_status}
 use Rattle.pj_alone.specs.Endings.{at_words, at_plan, at_opening, ending_of, ComesAt, EarlyLeaves, KeepsLast}
@@ -41,6 +43,19 @@ none_opened names folder name = (λ t. inl t, λ t. elim t [ inl was ↦ was | i
 
 all_stay : (names : List (List ℕ)) (folder : FolderState) → StayOutside names folder folder
 all_stay names folder = record { faults = λ name other. refl; last = λ name other. refl }
+
+-- an unsafe plan is refused with its lines where it is to be run
+stuck_of : (found : Found) (files : Option ℕ) (plan : Outline) → PlanUnfit (Stuck found) files plan → RefusesPlan (Unsafe found.node found.risk) files plan × AreUnsafeLines plan.nodes found.node found.risk found.lines
+stuck_of found None plan u = absurd u
+stuck_of found (Some files) plan u = u
+
+stuck_runs : (call : Call) (found : Found) (plan : Outline) → PlanUnfit (Stuck found) (files_asked call) plan → call.task ≡ running
+stuck_runs call found plan u = go call.task refl u
+  where
+    go : (task : Task) → call.task ≡ task → PlanUnfit (Stuck found) (files_for task (length (file_names call))) plan → call.task ≡ running
+    go nothing is unfit = absurd unfit
+    go running is unfit = is
+    go (checking print) is unfit = absurd unfit
 
 -- nothing was done, and the status' line was written
 pub ended_at_words : (call : Call) (status : Status) (new : FolderState) (first after : SinkState) → ComesAt status at_words → new ≡ call.folder → EarlyLeaves status call first after → Ends (ending_of call status new first after)
@@ -93,7 +108,7 @@ module _ (call : Call) (new : FolderState) (first after : SinkState) (stay : Sta
   memory_ended (suc (suc n)) most opened line = absurd (omega (arith, most))
 
   pub ended_early : (stop : PlanStop) → OpensAtMost 1 call.names call.folder new → Unprepared stop call new → Delivered (refusal_text stop) first after → Ends (ending_of call (plan_status stop) new first after)
-  ended_early NoWords most u line = ended_at_words call Usage new first after refl u.1 line
+  ended_early NoPlan most u line = ended_at_words call Usage new first after refl u.1 line
   ended_early (PlanFile NotOpened) most u line = ended_before_plan (OpenFault 1) (0, refl, refl) u.1.0 line (λ told t n is alone. u.1.2 (slice_index_or call.names 0 []))
   ended_early (PlanFile NotRead) most u line = ended_at_plan (ReadFault 1) (inl (refl, refl)) (first_alone u.0 u.1.0) line
   ended_early (PlanFile TooLong) most u line = ended_at_plan (Limit Plan) refl (first_alone u.0 u.1.0) line
@@ -101,7 +116,7 @@ module _ (call : Call) (new : FolderState) (first after : SinkState) (stay : Sta
   ended_early (Refused fault) most u line = ended_at_plan (PlanRefused fault.line fault.why) refl (first_alone u.0 u.1.0) line
   ended_early (OtherCount want got) most u line = ended_at_plan (FileCount want got) refl (first_alone u.0 u.1.0) line
   ended_early (Stuck found) most u line =
-      ended_at_plan (Unsafe found.node found.risk) (inl refl) (first_alone u.0 u.1.0.0) (u.1.0.1, found.lines, λ told. (u.1.0.3 told).1, u.1.0.2.1, line)
+      ended_at_plan (Unsafe found.node found.risk) (inl refl) (first_alone u.0 u.1.0.0) (stuck_runs call found u.1.0.1 u.1.0.2, u.1.0.1, found.lines, λ told. (u.1.0.3 told).1, (stuck_of found (files_asked call) u.1.0.1 u.1.0.2).1, line)
   ended_early PlanMemory most (inl run) line = memory_ended most.0 most.1 most.2 line
   ended_early PlanMemory most (inr same) line = ended_at_words call NoMemory new first after tt same line
 
@@ -115,7 +130,7 @@ module _ (call : Call) (new : FolderState) where
   first_fault run rose = record { first = omega arith; last = some_operands run; rose = rose; later = λ more. absurd (omega (arith, more)) }
 
   pub fault_early : (stop : PlanStop) (n : ℕ) → Unprepared stop call new → plan_status stop ≡ ReadFault n → HasFault call new n
-  fault_early NoWords n u e = absurd (cc)
+  fault_early NoPlan n u e = absurd (cc)
   fault_early (PlanFile NotOpened) n u e = absurd (cc)
   fault_early (PlanFile NotRead) n u e = let same : 1 ≡ n = cc e in subst (HasFault call new) same (first_fault u.0 u.1.1)
   fault_early (PlanFile TooLong) n u e = absurd (cc)
@@ -126,7 +141,7 @@ module _ (call : Call) (new : FolderState) where
   fault_early PlanMemory n u e = absurd (cc)
 
   pub unopened_early : (stop : PlanStop) (n : ℕ) → Unprepared stop call new → plan_status stop ≡ OpenFault n → IsUnopened call new n
-  unopened_early NoWords n u e = absurd (cc)
+  unopened_early NoPlan n u e = absurd (cc)
   unopened_early (PlanFile NotOpened) n u e =
       let same : 1 ≡ n = cc e in
       subst (IsUnopened call new) same (record { fault = first_fault u.0 u.1.1; before = 0; number = refl; opened = u.1.0 })
@@ -141,11 +156,11 @@ module _ (call : Call) (new : FolderState) where
 -- ---- words
 
 -- a result that no words gave is this stop, and no other
-pub usage_alone : {T : Type 0} (result : Result T PlanStop) (stop : PlanStop) → result ≡ Err stop → result ≡ Err NoWords → stop ≡ NoWords
-usage_alone result stop is none = let e : Err stop ≡ Err NoWords = sym is ∙ none in cc e
+pub usage_alone : {T : Type 0} (result : Result T PlanStop) (stop : PlanStop) → result ≡ Err stop → result ≡ Err NoPlan → stop ≡ NoPlan
+usage_alone result stop is none = let e : Err stop ≡ Err NoPlan = sym is ∙ none in cc e
 
 pub no_words : (stop : PlanStop) (call : Call) (after : FolderState) → Unprepared stop call after → plan_status stop ≡ Usage → takes_plan call.task ≡ false
-no_words NoWords call after u e = u.0
+no_words NoPlan call after u e = u.0
 no_words (PlanFile NotOpened) call after u e = absurd (cc)
 no_words (PlanFile NotRead) call after u e = absurd (cc)
 no_words (PlanFile TooLong) call after u e = absurd (cc)
@@ -157,7 +172,7 @@ no_words PlanMemory call after u e = absurd (cc)
 
 -- the lines of an unsafe plan spell no element
 pub early_lines : (stop : PlanStop) (call : Call) (after : FolderState) → Unprepared stop call after → HasLines stop
-early_lines NoWords call after u = tt
+early_lines NoPlan call after u = tt
 early_lines (PlanFile stop) call after u = tt
 early_lines (Refused fault) call after u = tt
 early_lines (OtherCount want got) call after u = tt
@@ -281,7 +296,7 @@ module _ (call : Call) (run : takes_plan call.task ≡ true) where
   answers_so answer is told status refuses = inl (refused_alone call answer status (inr (run, is told)) refuses)
 
 pub refused_early : (stop : PlanStop) (call : Call) (after : FolderState) (status : Status) → Unprepared stop call after → plan_status stop ≡ status → IsOfPlan status → IsRefused call status
-refused_early NoWords call after status u e p = absurd (subst IsOfPlan (sym e) p)
+refused_early NoPlan call after status u e p = absurd (subst IsOfPlan (sym e) p)
 refused_early (PlanFile NotOpened) call after status u e p = absurd (subst IsOfPlan (sym e) p)
 refused_early (PlanFile NotRead) call after status u e p = absurd (subst IsOfPlan (sym e) p)
 refused_early (PlanFile TooLong) call after status u e p = refused_so call u.0.takes (Limit Plan) status (λ told. too_long (files_asked call) (plan_bytes call) (u.1.1 told)) e
@@ -289,7 +304,7 @@ refused_early (PlanFile FileMemory) call after status u e p = absurd (subst IsOf
 refused_early (Refused fault) call after status u e p = refused_so call u.0.takes (PlanRefused fault.line fault.why) status (λ told. has_fault (files_asked call) (plan_bytes call) fault (u.1.1 told)) e
 refused_early (OtherCount want got) call after status u e p = refused_so call u.0.takes (FileCount want got) status (λ told. is_unfit (FileCount want got) (files_asked call) (plan_bytes call) u.1.1 u.1.2 (u.1.3 told)) e
 refused_early (Stuck found) call after status u e p =
-    refused_so call u.0.takes (Unsafe found.node found.risk) status (λ told. is_unfit (Unsafe found.node found.risk) (files_asked call) (plan_bytes call) u.1.0.1 u.1.0.2.0 (u.1.0.3 told)) e
+    refused_so call u.0.takes (Unsafe found.node found.risk) status (λ told. is_unfit (Unsafe found.node found.risk) (files_asked call) (plan_bytes call) u.1.0.1 (stuck_of found (files_asked call) u.1.0.1 u.1.0.2).0 (u.1.0.3 told)) e
 refused_early PlanMemory call after status u e p = absurd (subst IsOfPlan (sym e) p)
 
 -- a status that a run alone has
@@ -308,7 +323,7 @@ IsOfRun (Limit (Node node)) = Unit {0}
 IsOfRun (Limit (File stream)) = Unit {0}
 
 pub run_never : (stop : PlanStop) (status : Status) → plan_status stop ≡ status → IsOfRun status → ⊥
-run_never NoWords status e p = subst IsOfRun (sym e) p
+run_never NoPlan status e p = subst IsOfRun (sym e) p
 run_never (PlanFile NotOpened) status e p = subst IsOfRun (sym e) p
 run_never (PlanFile NotRead) status e p = subst IsOfRun (sym e) p
 run_never (PlanFile TooLong) status e p = subst IsOfRun (sym e) p
@@ -340,8 +355,31 @@ usage_never (Run (RunCut CoreMemory)) e = cc
 usage_never (Run WriteFailed) e = cc
 usage_never (Run RunMemory) e = cc
 
+-- neither a stop nor a refusal is an end
+pub done_never : (stop : FilesStop) → files_status stop ≡ Done → ⊥
+done_never (Opening (Fault stream)) e = cc
+done_never (Opening OpeningMemory) e = cc
+done_never (Run (RunFault stream)) e = cc
+done_never (Run (TooLarge stream)) e = cc
+done_never (Run (RunLimit node)) e = cc
+done_never (Run (RunCut (CoreLimit node))) e = cc
+done_never (Run (RunCut CoreMemory)) e = cc
+done_never (Run WriteFailed) e = cc
+done_never (Run RunMemory) e = cc
+
+pub early_never : (stop : PlanStop) → plan_status stop ≡ Done → ⊥
+early_never NoPlan e = cc
+early_never (PlanFile NotOpened) e = cc
+early_never (PlanFile NotRead) e = cc
+early_never (PlanFile TooLong) e = cc
+early_never (PlanFile FileMemory) e = cc
+early_never (Refused fault) e = cc
+early_never (OtherCount want got) e = cc
+early_never (Stuck found) e = cc
+early_never PlanMemory e = cc
+
 pub answers_early : (stop : PlanStop) (call : Call) (after : FolderState) → Unprepared stop call after → AnswersRefusal (plan_status stop) call
-answers_early NoWords call after u = λ told status refuses. inl (refused_alone call Usage status (inl (u.0, refl)) refuses)
+answers_early NoPlan call after u = λ told status refuses. inl (refused_alone call Usage status (inl (u.0, refl)) refuses)
 answers_early (PlanFile NotOpened) call after u = λ told status refuses. inr (inr (inl refl))
 answers_early (PlanFile NotRead) call after u = λ told status refuses. inr (inr (inr refl))
 answers_early (PlanFile TooLong) call after u = answers_so call u.0.takes (Limit Plan) (λ told. too_long (files_asked call) (plan_bytes call) (u.1.1 told))
@@ -349,7 +387,7 @@ answers_early (PlanFile FileMemory) call after u = λ told status refuses. inr (
 answers_early (Refused fault) call after u = answers_so call u.0.takes (PlanRefused fault.line fault.why) (λ told. has_fault (files_asked call) (plan_bytes call) fault (u.1.1 told))
 answers_early (OtherCount want got) call after u = answers_so call u.0.takes (FileCount want got) (λ told. is_unfit (FileCount want got) (files_asked call) (plan_bytes call) u.1.1 u.1.2 (u.1.3 told))
 answers_early (Stuck found) call after u =
-    answers_so call u.0.takes (Unsafe found.node found.risk) (λ told. is_unfit (Unsafe found.node found.risk) (files_asked call) (plan_bytes call) u.1.0.1 u.1.0.2.0 (u.1.0.3 told))
+    answers_so call u.0.takes (Unsafe found.node found.risk) (λ told. is_unfit (Unsafe found.node found.risk) (files_asked call) (plan_bytes call) u.1.0.1 (stuck_of found (files_asked call) u.1.0.1 u.1.0.2).0 (u.1.0.3 told))
 answers_early PlanMemory call after u = λ told status refuses. inr (inl refl)
 
 -- where nothing is refused

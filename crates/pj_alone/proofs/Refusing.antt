@@ -16,7 +16,7 @@ use Rattle.pj_core.specs.Calls.{IsFresh}
 use Rattle.pj_alone.specs.declared.stops.FileStop.{FileStop}
 use Rattle.pj_alone.specs.declared.stops.FileStop.TheVariants.{OpenFault as NotOpened, ReadFault as NotRead, TooLong, NoMemory as FileMemory}
 use Rattle.pj_alone.specs.declared.stops.PlanStop.{PlanStop}
-use Rattle.pj_alone.specs.declared.stops.PlanStop.TheVariants.{Usage as NoWords, File as PlanFile, Refused, FileCount as OtherCount, Unsafe as Stuck, NoMemory as PlanMemory}
+use Rattle.pj_alone.specs.declared.stops.PlanStop.TheVariants.{Usage as NoPlan, File as PlanFile, Refused, FileCount as OtherCount, Unsafe as Stuck, NoMemory as PlanMemory}
 use Rattle.pj_feed.specs.Opened.{OpensFirst, StayOutside}
 use Rattle.pj_feed.proofs.Outside.{stay_elsewhere}
 use Rattle.pj_run.specs.PlanNames.{HasShortNames}
@@ -64,7 +64,7 @@ read_as bytes plan e = go (plan_read bytes) refl e
     go (Err fault) is q = absurd (cc)
 
 pub unfit_bytes : (stop : PlanStop) (files : Option ℕ) (bytes : List ℕ) (plan : Outline) → plan_read bytes ≡ Ok plan → PlanUnfit stop files plan → BytesRefused stop files bytes
-unfit_bytes NoWords files bytes plan read u = absurd u
+unfit_bytes NoPlan files bytes plan read u = absurd u
 unfit_bytes (PlanFile stop) files bytes plan read u = absurd u
 unfit_bytes (Refused fault) files bytes plan read u = absurd u
 unfit_bytes (OtherCount want got) files bytes plan read u = (plan, read, u)
@@ -85,7 +85,7 @@ module _ (files : Option ℕ) (name bytes : List ℕ) (old new : FolderState) (i
   told_so result read told = subst (λ (bs : List ℕ). (length bs ≤ 1048576) × (plan_read bs ≡ result)) (is told) (few, read)
 
   pub bytes_cause : (stop : PlanStop) → BytesRefused stop files bytes → HasLines stop → PlanCause stop files name old new
-  bytes_cause NoWords b lines = absurd b
+  bytes_cause NoPlan b lines = absurd b
   bytes_cause (PlanFile stop) b lines = absurd b
   bytes_cause (Refused fault) b lines = (opened, told_so (Err fault) b)
   bytes_cause (OtherCount want got) b lines = (opened, b.0, b.2, told_so (Ok b.0) b.1)

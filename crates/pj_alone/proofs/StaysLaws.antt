@@ -26,7 +26,7 @@ use Rattle.pj_run.specs.declared.stops.FilesStop.{FilesStop}
 use Rattle.pj_run.specs.declared.stops.FilesStop.TheVariants.{Opening, Run}
 use Rattle.pj_feed.specs.declared.stops.OpeningStop.TheVariants.{Fault, NoMemory as OpeningMemory}
 use Rattle.pj_alone.specs.declared.stops.PlanStop.{PlanStop}
-use Rattle.pj_alone.specs.declared.stops.PlanStop.TheVariants.{Usage as NoWords, File as PlanFile, Refused, FileCount as OtherCount, Unsafe as Stuck, NoMemory as PlanMemory}
+use Rattle.pj_alone.specs.declared.stops.PlanStop.TheVariants.{Usage as NoPlan, File as PlanFile, Refused, FileCount as OtherCount, Unsafe as Stuck, NoMemory as PlanMemory}
 use Rattle.pj_alone.specs.declared.stops.FileStop.TheVariants.{OpenFault as NotOpened, ReadFault as NotRead, TooLong, NoMemory as FileMemory}
 use Rattle.pj_run.specs.declared.stops.RunStop.TheVariants.{ReadFault as RunFault, TooLarge, Limit as RunLimit, WriteFailed, NoMemory as RunMemory, Cut as RunCut}
 use Rattle.pj_alone.specs.Calls.{Call, job_of, stream_files}
@@ -237,7 +237,7 @@ early_notes call lines old new told notes delivered =
 
 -- the run never began, and the lines of the status were written
 pub never_early : (stop : PlanStop) (call : Call) (old new : SinkState) → IsTrue new.told → HasLines stop → Delivered (refusal_text stop) old new → NoneRetracted call old.written new.written
-never_early NoWords call old new told lines delivered = early_note call (status_line [] Usage) old new told usage_note delivered
+never_early NoPlan call old new told lines delivered = early_note call (status_line [] Usage) old new told usage_note delivered
 never_early (PlanFile NotOpened) call old new told lines delivered = early_note call (status_line [] (OpenFault 1)) old new told (open_fault_note 1) delivered
 never_early (PlanFile NotRead) call old new told lines delivered = early_note call (status_line [] (ReadFault 1)) old new told (read_fault_note 1) delivered
 never_early (PlanFile TooLong) call old new told lines delivered = early_note call (status_line [] (Limit Plan)) old new told (limit_note Plan [] tt) delivered

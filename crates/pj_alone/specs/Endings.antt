@@ -23,7 +23,7 @@ use Rattle.pj_report.specs.Written.{flat, WholeLines, FrontOf, Delivered, holdin
 use Rattle.pj_run.specs.Ends.{EndsBefore, EndsAtBytes, EndsAtLimit, EndsCut, ArrivedOf}
 use Rattle.pj_run.specs.Jobs.{Job}
 use Rattle.pj_run.specs.Runs.{run_lines}
-use Rattle.pj_alone.specs.Calls.{checking, Call, job_of, IsTold, HasToldPlan, operand, file_names, plan_bytes, stream_files}
+use Rattle.pj_alone.specs.Calls.{checking, running, Call, job_of, IsTold, HasToldPlan, operand, file_names, plan_bytes, stream_files}
 use Rattle.pj_alone.specs.Plans.{SpellsPlan}
 use Rattle.pj_alone.specs.Top.{IsBuilt}
 
@@ -141,13 +141,13 @@ stop_name nodes (Limit what) = limit_name nodes what
 abbrev pub Left : List ℕ → List ℕ → SinkState → SinkState → Type 0
 Left bytes line old new = Delivered line (holding old bytes) new
 
--- the lines of an unsafe plan were written: of its first node at a risk, at this one
+-- the lines of an unsafe plan that was to be run were written: of its first node at a risk, at this one
 abbrev pub TellsUnsafe : ℕ → PlanRisk → Call → SinkState → SinkState → Type 0
 TellsUnsafe node risk call old new =
-    (plan : Outline) × (lines : List (List ℕ)) × (HasToldPlan call → plan_read (plan_bytes call) ≡ Ok plan)
+    (call.task ≡ running) × (plan : Outline) × (lines : List (List ℕ)) × (HasToldPlan call → plan_read (plan_bytes call) ≡ Ok plan)
     × AreUnsafeLines plan.nodes node risk lines × Delivered (flat lines) old new
 
--- what is left where a call did not come to its run: the status' line and nothing else
+-- what is left where a call did not come to its run: the status' lines and nothing else
 abbrev pub EarlyLeaves : Status → Call → SinkState → SinkState → Type 0
 EarlyLeaves Done call old new = ⊥
 EarlyLeaves Usage call old new = Delivered (status_line [] Usage) old new

@@ -1,5 +1,5 @@
 -- What the top call promises: each clause is a sentence on how a call ended.
-use Rattle.std.specs.Prelude.{◌≡◌, ℕ, false, ⊤}
+use Rattle.std.specs.Prelude.{◌≡◌, ℕ, false, ⊤, []}
 use Rattle.pj_feed.specs.Opened.{AreReadToEnd}
 use Rattle.pj_plan.specs.declared.fault.PlanWhy.{PlanWhy}
 use Rattle.pj_report.specs.declared.status.Status.TheVariants.{Done, Usage, OpenFault, ReadFault, PlanRefused, FileCount, Unsafe, WriteFault, Limit}
@@ -45,7 +45,7 @@ ReadsToEnd e = e.status ≡ Done → AreReadToEnd e.call.names e.call.folder e.a
 abbrev pub Ends : Ending → Type 0
 Ends e = (stage : Stage) × EndsAt stage e
 
--- a check writes no results
+-- no check of a plan, which writes no results
 abbrev pub IsNoCheck : Task → Type 0
 IsNoCheck nothing = ⊤
 IsNoCheck running = ⊤
@@ -55,9 +55,9 @@ IsNoCheck (checking print) = ⊥
 abbrev pub RetractsNothing : Ending → Type 0
 RetractsNothing e = IsNoCheck e.call.task → NeverRetracted e.call e.old e.new
 
--- the sink holds nothing back, or its faults rose
+-- the sink holds nothing back, or its faults rose and the call is not done
 abbrev pub HandsOn : Ending → Type 0
-HandsOn e = HandedOn e.old e.new
+HandsOn e = HandedOn e.old e.new × (e.status ≡ Done → e.new.held ≡ [])
 
 -- ---- when each status comes
 

@@ -12,7 +12,7 @@ use Rattle.pj_report.specs.declared.status.LimitOf.TheVariants.{Plan}
 use Rattle.pj_alone.specs.declared.stops.FileStop.{FileStop}
 use Rattle.pj_alone.specs.declared.stops.FileStop.TheVariants.{OpenFault, ReadFault, TooLong, NoMemory as FileMemory}
 use Rattle.pj_alone.specs.declared.stops.PlanStop.{PlanStop}
-use Rattle.pj_alone.specs.declared.stops.PlanStop.TheVariants.{Usage as NoWords, File, Refused, FileCount as OtherCount, Unsafe as Stuck, NoMemory as PlanMemory}
+use Rattle.pj_alone.specs.declared.stops.PlanStop.TheVariants.{Usage as NoPlan, File, Refused, FileCount as OtherCount, Unsafe as Stuck, NoMemory as PlanMemory}
 use Rattle.pj_alone.specs.Calls.{running, takes_plan, Call, HasToldPlan, files_asked, file_names, operand, plan_bytes}
 use Rattle.pj_feed.specs.Opened.{OpensFirst}
 use Rattle.pj_safety.specs.Safety.{IsFirstRisk}
@@ -67,20 +67,21 @@ IsRefused call status = (takes_plan call.task ≡ true) × (HasToldPlan call →
 
 -- ---- why there is no plan to run
 
--- a plan without fault is refused so, where there are so many files
+-- a plan without fault is refused so, where it is to have a stream for each of so many files
 abbrev pub PlanUnfit : PlanStop → Option ℕ → Outline → Type 0
-PlanUnfit NoWords files plan = ⊥
+PlanUnfit NoPlan files plan = ⊥
 PlanUnfit (File stop) files plan = ⊥
 PlanUnfit (Refused fault) files plan = ⊥
 PlanUnfit (OtherCount want got) files plan = RefusesPlan (FileCount want got) files plan
-PlanUnfit (Stuck found) files plan =
-    RefusesPlan (Unsafe found.node found.risk) files plan × AreUnsafeLines plan.nodes found.node found.risk found.lines
+PlanUnfit (Stuck found) None plan = ⊥
+PlanUnfit (Stuck found) (Some files) plan =
+    RefusesPlan (Unsafe found.node found.risk) (Some files) plan × AreUnsafeLines plan.nodes found.node found.risk found.lines
 PlanUnfit PlanMemory files plan = ⊤
 
 -- the lines of an unsafe plan are such as spell no element
 abbrev pub HasLines : PlanStop → Type 0
 HasLines (Stuck found) = HasUnsafeLines found
-HasLines NoWords = ⊤
+HasLines NoPlan = ⊤
 HasLines (File stop) = ⊤
 HasLines (Refused fault) = ⊤
 HasLines (OtherCount want got) = ⊤
@@ -92,7 +93,7 @@ ReadUnfit stop files bytes = (plan : Outline) × (plan_read bytes ≡ Ok plan) �
 
 -- the bytes of a plan's file, which are not too many, are refused so, where there are so many files
 abbrev pub BytesRefused : PlanStop → Option ℕ → List ℕ → Type 0
-BytesRefused NoWords files bytes = ⊥
+BytesRefused NoPlan files bytes = ⊥
 BytesRefused (File stop) files bytes = ⊥
 BytesRefused (Refused fault) files bytes = plan_read bytes ≡ Err fault
 BytesRefused (OtherCount want got) files bytes = ReadUnfit (OtherCount want got) files bytes
@@ -126,7 +127,7 @@ OpenedAndUnfit stop files name old new =
 
 -- why there is no plan in the file of this name for so many files
 abbrev pub PlanCause : PlanStop → Option ℕ → List ℕ → FolderState → FolderState → Type 0
-PlanCause NoWords files name old new = ⊥
+PlanCause NoPlan files name old new = ⊥
 PlanCause (File OpenFault) files name old new = OpensFirst 0 (name ∷ []) old new × RoseAt name old.faults new.faults × SameEverywhere old.last new.last
 PlanCause (File ReadFault) files name old new = OpensFirst 1 (name ∷ []) old new × RoseAt name old.faults new.faults
 PlanCause (File TooLong) files name old new = OpensFirst 1 (name ∷ []) old new × (IsTrue (old.told name) → 1048576 < length (old.contents name))
@@ -151,9 +152,9 @@ abbrev pub CallUnfit : PlanStop → Call → FolderState → Type 0
 CallUnfit stop call after = HasPlan call × PlanCause stop (files_asked call) (operand call.names 1) call.folder after
 
 -- why a call has no plan: what is asked for names none, and nothing was done; it names a file with no such plan; or memory was wanting,
--- maybe before the words were read
+-- maybe before the file was opened
 abbrev pub Unprepared : PlanStop → Call → FolderState → Type 0
-Unprepared NoWords call after = (takes_plan call.task ≡ false) × (after ≡ call.folder)
+Unprepared NoPlan call after = (takes_plan call.task ≡ false) × (after ≡ call.folder)
 Unprepared (File stop) call after = CallUnfit (File stop) call after
 Unprepared (Refused fault) call after = CallUnfit (Refused fault) call after
 Unprepared (OtherCount want got) call after = CallUnfit (OtherCount want got) call after

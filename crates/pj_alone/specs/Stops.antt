@@ -4,7 +4,7 @@ use Rattle.pj_safety.specs.declared.risk.PlanRisk.{PlanRisk}
 use Rattle.pj_alone.specs.declared.stops.FileStop.{FileStop}
 use Rattle.pj_alone.specs.declared.stops.FileStop.TheVariants.{OpenFault as NotOpened, ReadFault as NotRead, TooLong, NoMemory as FileMemory}
 use Rattle.pj_alone.specs.declared.stops.PlanStop.{PlanStop}
-use Rattle.pj_alone.specs.declared.stops.PlanStop.TheVariants.{Usage as NoWords, File as PlanFile, Refused, FileCount as OtherCount, Unsafe as Stuck, NoMemory as PlanMemory}
+use Rattle.pj_alone.specs.declared.stops.PlanStop.TheVariants.{Usage as NoPlan, File as PlanFile, Refused, FileCount as OtherCount, Unsafe as Stuck, NoMemory as PlanMemory}
 use Rattle.pj_report.specs.declared.status.Status.{Status}
 use Rattle.pj_report.specs.Report.{status_line}
 use Rattle.pj_report.specs.Written.{flat}
@@ -20,7 +20,7 @@ file_status FileMemory = StatusMemory
 
 -- the status of a call that has no plan to run
 abbrev pub plan_status : PlanStop → Status
-plan_status NoWords = Usage
+plan_status NoPlan = Usage
 plan_status (PlanFile stop) = file_status stop
 plan_status (Refused fault) = PlanRefused fault.line fault.why
 plan_status (OtherCount want got) = FileCount want got
@@ -30,7 +30,7 @@ plan_status PlanMemory = StatusMemory
 -- what is written where there is no plan to run: the two lines of an unsafe plan, or the line of the status
 abbrev pub refusal_text : PlanStop → List ℕ
 refusal_text (Stuck found) = flat found.lines
-refusal_text NoWords = status_line [] Usage
+refusal_text NoPlan = status_line [] Usage
 refusal_text (PlanFile stop) = status_line [] (file_status stop)
 refusal_text (Refused fault) = status_line [] (PlanRefused fault.line fault.why)
 refusal_text (OtherCount want got) = status_line [] (FileCount want got)

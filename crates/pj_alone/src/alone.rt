@@ -20,7 +20,8 @@ use std::alloc::Global;
 /// plan's run hands out, and the report; with `trace` also a note for each row that a sweep removes, with `sorted` the results in
 /// order of their lines once the run is done, rows first, and a report without peaks, and with `check` the number of rows of the
 /// plan's answer, worked out again from the accepted rows. No more than `limit` elements may arrive at a join or a group. A plan of
-/// which a node is not safe is refused with `Unsafe` before a file of a stream is opened; every other plan is run.
+/// which a node is not safe is refused with `Unsafe` before a file of a stream is opened; every other plan without a fault, with a
+/// stream for each file, is run.
 ///
 /// A check reads a plan, and writes what each input of each join reaches, behind the canonical plan with `print`: `Done` where the plan
 /// is safe, else `Unsafe`. Requests that are neither are answered with `Usage`.

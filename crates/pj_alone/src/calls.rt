@@ -1,4 +1,4 @@
-// What a request asks for: a plan, with a file for each of its streams.
+// What a request asks for: a plan, and for a run a file for each of its streams.
 ghost use Rattle.std.specs.Prelude.{ℕ, ◌≡◌, ◌≤◌, ◌^◌, ◌∷◌, [], false, Option, Some, None, Ok, Err, IsTrue, IfOk, IfErr, OnOk, length, take};
 ghost use Rattle.pj_io.specs.States.{FolderState};
 ghost use Rattle.pj_io.specs.Folders.{NoneFalls, SameElsewhere};

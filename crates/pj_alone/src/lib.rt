@@ -1,4 +1,4 @@
-//! The call of a request on one thread: reads a plan and its files, and writes the results. It never waits.
+//! The call of a request on one thread: runs a plan over its files, or checks it. It waits for no other thread.
 #![tactic(auto)]
 
 mod alone;

@@ -7,7 +7,7 @@ use crate::stops::PlanStop;
 use pj_io::Sink;
 use pj_report::{write_lines, write_status};
 
-/// Writes the line of why there is no plan to run, or the two lines of an unsafe plan, each by one `write_all`, and hands on what
+/// Writes the line of why there is no plan, or the two lines of an unsafe plan, each by one `write_all`, and hands on what
 /// the sink holds back. Where that fails, the status stays what it was.
 pub fn write_refusal<K: Sink>(stop: &PlanStop, out: &mut K)
     ensures told { IsTrue (K.state out.new).told → IsTrue (K.state out.old).told }

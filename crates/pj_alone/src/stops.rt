@@ -21,7 +21,7 @@ pub enum FileStop {
 /// Why there is no plan to run.
 #[derive(Drop)]
 pub enum PlanStop {
-    /// What is asked for is no run.
+    /// What is asked for names no plan.
     Usage,
     /// The plan's file was not read.
     File { stop: FileStop },

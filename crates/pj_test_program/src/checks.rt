@@ -1,5 +1,5 @@
 // The exact bytes of checks, and how they end.
-use crate::runs::{AUCTION, run_in, sink_of};
+use crate::runs::{AUCTION, UNSAFE, run_in, sink_of};
 use pj_engine::Status;
 use pj_io::{MemFolder, MemSink};
 use pj_value::List;
@@ -32,10 +32,6 @@ fn ends(
     Ok(status.number() == number && out.bytes() == want)
 }
 
-// A tuple of `a` binds one of the two marked columns of `b` alone.
-const STUCK: &[u8] =
-    b"plan 1\nstream a x:int y:int\nstream b bx:int bz:int\nscheme a + _\nscheme b + +\njoin j a b on x=bx\noutput j\n";
-
 const STUCK_CHECK: &[u8] =
     b"# unsafe join j input a: cannot reach b\n# reached: a\n# partner b t 0 1\n# safe join j input b: a by + _\n";
 
@@ -60,7 +56,7 @@ const SELECT_PRINTED: &[u8] =
 #[test]
 fn plans_are_checked_and_printed(rt: HostRuntime) -> Result<(), Fail> {
     for (command, plan, number, want) in [
-        ("check plan", STUCK, 2u8, STUCK_CHECK),
+        ("check plan", UNSAFE, 2u8, STUCK_CHECK),
         ("check plan", THREE_WAY, 0, THREE_WAY_CHECK),
         ("check plan --print", AUCTION, 0, AUCTION_PRINTED),
         ("check --print plan", SELECT, 0, SELECT_PRINTED),
@@ -134,35 +130,23 @@ fn each_write_of_a_check_fails_in_turn(rt: HostRuntime) -> Result<(), Fail> {
         b"plan 1\nstream a x:int y:int\nscheme a + _\nstream b bx:int bz:int\nscheme b + +\njoin j a b on x=bx\noutput j\n",
     )?;
     printed.append(STUCK_CHECK)?;
-    let mut front = 0usize;
-    for nth in 0..11u64 {
+    let mut nth = 0u64;
+    for front in [0usize, 7, 28, 41, 64, 77, 96, 105, 145, 158, 176] {
         assert!(rt;
-            breaks_off(&rt, STUCK, nth, 2, front, printed.as_slice())?,
+            breaks_off(&rt, UNSAFE, nth, 2, front, printed.as_slice())?,
             "at {nth}"
         );
-        front = behind(printed.as_slice(), front);
+        nth = nth.saturating_add(1);
     }
-    front = 0;
-    for nth in 0..9u64 {
+    nth = 0;
+    for front in [0usize, 7, 41, 58, 90, 106, 138, 147, 186] {
         assert!(rt;
             breaks_off(&rt, AUCTION, nth, 4, front, AUCTION_PRINTED)?,
             "at {nth}"
         );
-        front = behind(AUCTION_PRINTED, front);
+        nth = nth.saturating_add(1);
     }
     Ok(())
-}
-
-// The place behind the line that begins at this one.
-fn behind(text: &[u8], start: usize) -> usize {
-    let mut at = start.min(text.len());
-    while at < text.len() {
-        at += 1;
-        if text[at - 1] == b'\n' {
-            return at;
-        }
-    }
-    at
 }
 
 #[test]

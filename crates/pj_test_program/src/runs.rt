@@ -63,7 +63,7 @@ const THREE_OUT: &[u8] =
     b"t 10 1 1 \"x\" 1 5\nt 20 2 2 \"z\" 2 6\np * * * * * *\np * * * * * *\np * * * * * *\n# stream a tuples 3 punctuations 0 rejected 0\n# stream b tuples 3 punctuations 0 rejected 0\n# stream c tuples 3 punctuations 0 rejected 0\n# results 2 punctuations 3\n# peak j 9\n";
 
 // A tuple of `a` binds one of the two marked columns of `b` alone.
-const UNSAFE: &[u8] =
+pub(crate) const UNSAFE: &[u8] =
     b"plan 1\nstream a x:int y:int\nstream b bx:int bz:int\nscheme a + _\nscheme b + +\njoin j a b on x=bx\noutput j\n";
 
 const STOPPED: &[u8] = b"# stopped read fault operand 2\n";

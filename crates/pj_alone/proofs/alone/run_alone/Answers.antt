@@ -21,7 +21,7 @@ use Rattle.pj_alone.specs.Stops.{plan_status}
 use Rattle.pj_alone.specs.Top.{IsBuilt, IsFit}
 use Rattle.pj_alone.proofs.CallLaws.{named_of, job_read, files_told, files_same, all_read, built, ended_done, ended_stop, faulted, unopened, write_failed, beyond, too_large, few_names, of_few, stop_handed}
 use Rattle.pj_alone.proofs.Completing.{completes_by}
-use Rattle.pj_alone.proofs.EarlyLaws.{answers_built, answers_early, early_lines, ended_early, fault_early, no_words, refused_early, refused_never, run_never, unopened_early, usage_alone, usage_never}
+use Rattle.pj_alone.proofs.EarlyLaws.{answers_built, answers_early, done_never, early_lines, early_never, ended_early, fault_early, no_words, refused_early, refused_never, run_never, unopened_early, usage_alone, usage_never}
 use Rattle.pj_alone.proofs.RunLaws.{ran}
 use Rattle.pj_alone.proofs.VerdictLaws.{answers_verdict, done_fits, ended_verdict, never_runs, read_alone, ready_check, ready_run, takes, unsafe_found, verdict_never, verdict_refused, write_fits}
 use Rattle.pj_alone.proofs.StaysLaws.{IsReady, never_early, never_done, never_stopped, stop_name_by, stop_name_short}
@@ -139,7 +139,7 @@ pub returns-in-Ok-clause-completes : goal.returns-in-Ok-clause-completes
 returns-in-Ok-clause-completes g c = λ all built none room. inl refl
 
 pub returns-in-Ok-clause-handed_on : goal.returns-in-Ok-clause-handed_on
-returns-in-Ok-clause-handed_on g c = inl c.in-Ok.ensures.handed_on
+returns-in-Ok-clause-handed_on g c = (inl c.in-Ok.ensures.handed_on, λ _. c.in-Ok.ensures.handed_on)
 
 -- ---- the run stopped
 
@@ -188,9 +188,11 @@ returns-in-Ok-Run-clause-never_retracted g c = λ _ all t.
     c.write_stop.ensures.line
 
 pub returns-in-Ok-Run-clause-handed_on : goal.returns-in-Ok-Run-clause-handed_on
-returns-in-Ok-Run-clause-handed_on g c =
-    stop_handed c.in-Err-run_files.stop (job_in c.in-Ok-Run.ready.writing c.in-Ok-Run.ready.core) c.files_in-files.result.now (g.F.Folder.state c.prepare.new.folder) (g.F.Folder.state c.run_files.new.folder) (g.K.Sink.state c.args.out.now) (g.K.Sink.state c.run_files.new.out) (g.K.Sink.state c.write_stop.new.out)
-    c.in-Err-run_files.ensures.causes c.in-Err-run_files.ensures.later c.write_stop.ensures.later c.write_stop.ensures.handed_on
+returns-in-Ok-Run-clause-handed_on g c = (
+  stop_handed c.in-Err-run_files.stop (job_in c.in-Ok-Run.ready.writing c.in-Ok-Run.ready.core) c.files_in-files.result.now (g.F.Folder.state c.prepare.new.folder) (g.F.Folder.state c.run_files.new.folder) (g.K.Sink.state c.args.out.now) (g.K.Sink.state c.run_files.new.out) (g.K.Sink.state c.write_stop.new.out)
+      c.in-Err-run_files.ensures.causes c.in-Err-run_files.ensures.later c.write_stop.ensures.later c.write_stop.ensures.handed_on,
+  λ is. absurd (done_never c.in-Err-run_files.stop (sym c.status-status.ensures ∙ is)),
+)
 
 pub returns-in-Ok-Run-clause-cause_of_open_fault : goal.returns-in-Ok-Run-clause-cause_of_open_fault
 returns-in-Ok-Run-clause-cause_of_open_fault g c = λ n is.
@@ -340,13 +342,7 @@ returns-in-Ok-Check-clause-never_retracted g c = λ no.
     absurd (subst IsNoCheck (ready_check _ _ _ _ r.ready c.in-Ok-Check.field-0-is).task no)
 
 pub returns-in-Ok-Check-clause-handed_on : goal.returns-in-Ok-Check-clause-handed_on
-returns-in-Ok-Check-clause-handed_on g c =
-    let call = call_for c.args.request.now (g.F.Folder.state c.args.folder.now) in
-    let r = c.in-Ok-Check.ensures in
-    let first = g.K.Sink.state c.args.out.now in
-    let after = g.K.Sink.state c.write_verdict.new.out in
-    let v = c.write_verdict.ensures.verdict in
-    c.write_verdict.ensures.handed_on
+returns-in-Ok-Check-clause-handed_on g c = (c.write_verdict.ensures.handed_on, c.write_verdict.ensures.all_handed_on)
 
 pub returns-in-Ok-Check-clause-cause_of_done : goal.returns-in-Ok-Check-clause-cause_of_done
 returns-in-Ok-Check-clause-cause_of_done g c = λ is.
@@ -488,6 +484,9 @@ returns-clause-ending g c =
     rw c.status.ensures
     (ended_early (call_for c.args.request.now (g.F.Folder.state c.args.folder.now)) (g.F.Folder.state c.prepare.new.folder) (g.K.Sink.state c.args.out.now) (g.K.Sink.state c.write_refusal.new.out) c.prepare.ensures.others
     c.in-Err.stop c.in-Err.ensures.some_opened c.in-Err.ensures.cause c.write_refusal.ensures.lines)
+
+pub returns-clause-handed_on : goal.returns-clause-handed_on
+returns-clause-handed_on g c = (c.write_refusal.ensures.handed_on, λ is. absurd (early_never c.in-Err.stop (sym c.status.ensures ∙ is)))
 
 pub returns-clause-never_retracted : goal.returns-clause-never_retracted
 returns-clause-never_retracted g c = λ _ all t.

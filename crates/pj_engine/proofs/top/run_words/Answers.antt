@@ -3,7 +3,7 @@ use Rattle.pj_words.specs.declared.request.Request.{Request}
 use Rattle.pj_alone.specs.Calls.{call_by, call_for, wanted}
 use Rattle.pj_alone.specs.Endings.{ending_of, Ending}
 use Rattle.pj_alone.specs.Promises.{Answers, AnswersRefusals, Ends, IsCompleted, IsRightCount, IsRightFault, IsRightFileLimit, IsRightLimit, IsRightlyDone, IsRightlyUnsafe, IsRightOpenFault, IsRightPlanLimit, IsRightReadFault, IsRightUsage, IsRightWriteFault, Punctuates, ReadsToEnd, RetractsNothing, StaysLawful, Tallies, WritesOneThread}
-use Rattle.pj_alone.specs.declared.stops.PlanStop.TheVariants.{Usage as NoWords, NoMemory as PlanMemory}
+use Rattle.pj_alone.specs.declared.stops.PlanStop.TheVariants.{Usage as NoPlan, NoMemory as PlanMemory}
 use Rattle.pj_alone.proofs.StaysLaws.{never_early}
 use Rattle.pj_engine.specs.Words.{call_of}
 use Rattle.pj_engine.proofs.top.run_words.Given.{Over}
@@ -86,7 +86,7 @@ returns-in-Ok-clause-completes g c = said g (goal.at.returns-in-Ok-clause-comple
 
 pub returns-in-Err-Usage-clause-never_retracted : goal.returns-in-Err-Usage-clause-never_retracted
 returns-in-Err-Usage-clause-never_retracted g c = λ _ all t.
-    never_early NoWords (call_of c.args.words.now (g.F.Folder.state c.args.folder.now)) (g.K.Sink.state c.args.out.now) (g.K.Sink.state c.write_status.new.out) t tt c.write_status.ensures.line
+    never_early NoPlan (call_of c.args.words.now (g.F.Folder.state c.args.folder.now)) (g.K.Sink.state c.args.out.now) (g.K.Sink.state c.write_status.new.out) t tt c.write_status.ensures.line
 
 pub returns-in-Err-NoMemory-clause-never_retracted : goal.returns-in-Err-NoMemory-clause-never_retracted
 returns-in-Err-NoMemory-clause-never_retracted g c = λ _ all t.

@@ -1,0 +1,3 @@
+pub mod Draws
+pub mod Inputs
+pub mod Worked
