@@ -1,6 +1,10 @@
 -- What the forms that never fail show.
-use Rattle.std.specs.Prelude.{ℕ}
-use Rattle.pj_io.specs.States.{SourceState}
+use Rattle.std.specs.Prelude.{ℕ, true, List}
+use Rattle.pj_io.specs.Books.{last_of, opened_in}
+use Rattle.pj_io.specs.MemoryFolders.{added_of, bytes_of}
+use Rattle.pj_io.specs.States.{FolderState, SourceState}
+use Rattle.pj_io.specs.declared.book.Note.{Note}
+use Rattle.pj_io.specs.declared.memory_file.MemFile.{MemFile}
 
 -- A source, and how many bytes a read gives at most
 pub record SteadySourceState : Type 0 where
@@ -10,3 +14,18 @@ pub record SteadySourceState : Type 0 where
 -- a source that counts no faults
 abbrev pub steady : SourceState → SourceState
 steady source = record source { faults = 0 }
+
+-- A folder: its files, and what is noted of names
+pub record SteadyFolderState : Type 0 where
+  pub files : List MemFile
+  pub notes : List Note
+
+-- it tells the contents of each name, none where nothing was added, and counts no faults
+abbrev pub steady_folder_of : SteadyFolderState → FolderState
+steady_folder_of f = record {
+  told = λ name. true;
+  contents = λ name. bytes_of (added_of f.files name);
+  opened = opened_in f.notes;
+  last = last_of f.notes;
+  faults = λ name. 0;
+}

@@ -13,6 +13,7 @@ mod memory_source;
 mod sink;
 mod source;
 mod standard;
+mod steady_folder;
 mod steady_source;
 mod whole;
 
@@ -24,5 +25,6 @@ pub use memory_source::MemSource;
 pub use sink::{Sink, write_all};
 pub use source::{Failed, Source};
 pub use standard::StdSink;
+pub use steady_folder::SteadyFolder;
 pub use steady_source::SteadySource;
 pub use whole::{WholeStop, read_whole};

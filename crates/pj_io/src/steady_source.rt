@@ -7,11 +7,11 @@ ghost use Rattle.pj_io.specs.Steady.{steady};
 
 use crate::memory_source::MemSource;
 use crate::{Failed, Source};
-use pj_value::NoMemory;
+use pj_value::{Bytes, NoMemory};
 use std::alloc::Global;
 use std::marker::Model;
 
-/// Bytes that are given in pieces of at most `cut`, under no name. No read fails, and the count of faults is 0.
+/// Bytes that are given in pieces of at most `cut`, under a name or none. No read fails, and the count of faults is 0.
 #[derive(Drop)]
 pub struct SteadySource {
     source: MemSource,
@@ -54,8 +54,33 @@ impl SteadySource {
         ensures fresh { IfOk result (λ s. IsFresh bytes.now (steady s.source)) }
         ensures cut { IfOk result (λ s. s.cut ≡ cut) }
     {
+        SteadySource::opened(alloc, &[], bytes, cut)
+    }
+
+    // The same, opened under a name.
+    pub(crate) fn opened(
+        alloc: Global,
+        name: &[u8],
+        bytes: &[u8],
+        cut: usize,
+    ) -> Result<SteadySource, NoMemory>
+        requires { 0 < cut }
+        ensures new { IfOk result (λ s. IsNew name.now (steady s.source)) }
+        ensures fresh { IfOk result (λ s. IsFresh bytes.now (steady s.source)) }
+        ensures cut { IfOk result (λ s. s.cut ≡ cut) }
+    {
         Ok(SteadySource {
-            source: MemSource::new(alloc, bytes, cut, &[])?,
+            source: MemSource::opened(alloc, name, bytes, cut, &[])?,
         })
+    }
+
+    // Its name, and how much was taken.
+    pub(crate) fn closed(self) -> (Bytes, u64)
+        ensures name { result.0 ≡ (steady self.source).name }
+        ensures taken { result.1 ≡ length (steady self.source).taken }
+    {
+        let SteadySource { source } = self;
+        let (name, _, taken) = source.closed();
+        (name, taken)
     }
 }
