@@ -1,0 +1,4 @@
+pub mod Numbers
+pub mod ScriptCells
+pub mod ScriptLines
+pub mod StepsFit
