@@ -1,0 +1,7 @@
+pub mod UnderWay
+pub mod InOrder
+pub mod Standing
+pub mod NewHand
+pub mod Keys
+pub mod Giving
+pub mod Settles

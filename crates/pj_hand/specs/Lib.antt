@@ -1,0 +1,4 @@
+pub mod Hands
+pub mod Held
+pub mod Steps
+pub mod Settling
