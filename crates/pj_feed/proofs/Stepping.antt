@@ -15,7 +15,7 @@ use Rattle.pj_intake.specs.declared.intake.IntakeStop.TheVariants.{ReadFault, By
 use Rattle.pj_intake.specs.Taking.{IsOpen}
 use Rattle.pj_intake.specs.Steps.{FitsStep, NextGives, GoesOn, accepted_in, rejected_in, stop_answered}
 use Rattle.pj_feed.specs.declared.feeds.Arrival.TheVariants.{Brought, Closing}
-use Rattle.pj_feed.specs.Feeds.{FeedState, bytes_of, all_accepted, count_of, work_of, IsFed, IsSameFeed, GivesTurn, HasPassed, FeedStops, fed_elements, brought, closes, turn_in}
+use Rattle.pj_feed.specs.Feeds.{AcceptsNone, ComesBehind, FeedState, HasAccepted, bytes_of, all_accepted, count_of, work_of, IsFed, IsSameFeed, GivesTurn, HasPassed, FeedStops, fed_elements, brought, closes, turn_in}
 use Rattle.pj_feed.proofs.FeedFacts.{IsAtEnd, next_left, those_so_far, counted, begins_with, nothing_left_of, fed_is}
 
 -- what one step does to a feed
@@ -80,7 +80,7 @@ abbrev pub shut : FeedState → FeedState
 shut feed = record { stream = feed.stream; is_open = false; source = feed.source; intake = feed.intake }
 
 module _ (old new : FeedState) (step : Step) (fed : IsFed old) (still : old.is_open ≡ true) (s : Stepped old new (Ok step)) where
-  abbrev gave : NextGives new.intake old.source new.source fed.judged (Ok step)
+  abbrev pub gave : NextGives new.intake old.source new.source fed.judged (Ok step)
   gave = s.next fed.goes_on fed.judged fed.follows fed.bytes
 
   abbrev columns : List Column
@@ -211,6 +211,41 @@ module _ (old new : FeedState) (step : Step) (fed : IsFed old) (still : old.is_o
       let all : work_of new ≡ (new.intake.buffer.limit - (new.intake.buffer.count - length new.intake.buffer.held)) + 1 = work_open new (s.still ∙ still) in
       let le : work_of new ≤ work_of old = stepped_works in
       omega (arith, all, le)
+
+-- ---- what was accepted so far
+
+module _ (old new : FeedState) (step : Step) (still : old.is_open ≡ true) (s : Stepped old new (Ok step)) where
+  -- behind it is what the step accepts
+  behind : (es : List Element) (had : HasAccepted old es) → es ++ accepted_in step ≡ taken_of (fates_of new.intake.columns (had.fed.judged ++ (gave old new step had.fed still s).more))
+  behind es had =
+      ap (λ (xs : List Element). xs ++ accepted_in step) (had.are ∙ ap (λ (ks : List Column). taken_of (fates_of ks had.fed.judged)) (sym s.columns))
+      ∙ sym (gave old new step had.fed still s).adds.elements
+
+  accepts-more : (es : List Element) → HasAccepted old es → HasAccepted new (es ++ accepted_in step)
+  unfolding stepped_fed
+  accepts-more es had = record { fed = stepped_fed old new step had.fed still s; are = behind es had }
+
+  pub element_comes : (e : Element) → accepted_in step ≡ e ∷ [] → ComesBehind old new (Brought old.stream e)
+  element_comes e is = record {
+    accepted = λ es had. subst (λ (more : List Element). HasAccepted new (es ++ more)) is (accepts-more es had);
+    still = s.still ∙ still;
+  }
+
+  pub reject_accepts : accepted_in step ≡ [] → AcceptsNone old new
+  reject_accepts none = record {
+    accepted = λ es had. subst (HasAccepted new) (append-nil es) (subst (λ (more : List Element). HasAccepted new (es ++ more)) none (accepts-more es had));
+    still = s.still;
+  }
+
+  pub end_comes : step ≡ End → ComesBehind old (shut new) (Closing old.stream)
+  unfolding stepped_fed end_fed
+  end_comes is = record {
+    accepted = λ es had. record {
+      fed = end_fed old new step had.fed still s is;
+      are = ap (λ (more : List Element). es ++ more) (sym (ap accepted_in is)) ∙ behind es had;
+    };
+    still = refl;
+  }
 
 -- ---- a step that could not be made
 

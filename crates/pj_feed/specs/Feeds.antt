@@ -132,6 +132,31 @@ BringsOf feed (Closing stream) = stream ≡ feed.stream
 abbrev pub GivesTurn : FeedState → FeedState → Arrival → Type 0
 GivesTurn old new next = IsTrue old.source.told → (streams : List PlanNode) → feed_left streams old ≡ turn_in streams next ∷ feed_left streams new
 
+-- these are the elements that were accepted so far
+pub record HasAccepted (feed : FeedState) (es : List Element) : Type 0 where
+  pub fed : IsFed feed
+  pub are : es ≡ taken_of (fates_of feed.intake.columns fed.judged)
+
+-- the element that a turn brings, if it is no closing
+abbrev pub brought_in : Arrival → List Element
+brought_in (Brought stream element) = element ∷ []
+brought_in (Closing stream) = []
+
+-- whether the closing is still to come behind a turn
+abbrev pub is_still : Arrival → Bool
+is_still (Brought stream element) = true
+is_still (Closing stream) = false
+
+-- whatever its source tells: behind what was accepted so far is what the turn brings
+pub record ComesBehind (old new : FeedState) (next : Arrival) : Type 0 where
+  pub accepted : (es : List Element) → HasAccepted old es → HasAccepted new (es ++ brought_in next)
+  pub still : new.is_open ≡ is_still next
+
+-- nothing more was accepted
+pub record AcceptsNone (old new : FeedState) : Type 0 where
+  pub accepted : (es : List Element) → HasAccepted old es → HasAccepted new es
+  pub still : new.is_open ≡ old.is_open
+
 -- lines were judged that accept nothing, so that all that was left of the stream still is
 pub record HasPassed (old new : FeedState) : Type 0 where
   pub fed : IsFed new

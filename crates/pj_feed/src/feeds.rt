@@ -1,7 +1,7 @@
 // The elements of all streams, step by step, as their files are read.
 ghost use Rattle.std.specs.Prelude.{◌≡◌, ◌<◌, true, IfOk, OnOk, IfErr, IfNone, IfSome};
 ghost use Rattle.pj_intake.specs.Taking.{waits_for_read};
-ghost use Rattle.pj_feed.specs.Feeds.{feed_of, work_of, IsFed, IsSameFeed, GivesTurn, HasPassed, BringsOf, FeedStops, IsFirstOpen, HasTurn};
+ghost use Rattle.pj_feed.specs.Feeds.{feed_of, work_of, IsFed, IsSameFeed, GivesTurn, AcceptsNone, ComesBehind, HasPassed, BringsOf, FeedStops, IsFirstOpen, HasTurn};
 
 use pj_element::Tally;
 use pj_intake::{Intake, IntakeStop, Step};
@@ -71,6 +71,8 @@ impl<S: Source> Feed<S> {
         ensures passed { IfOk result (λ next. IfNone next (HasPassed self.old self.new)) }
         ensures works { OnOk result (work_of self.new < work_of self.old) }
         ensures brings { IfOk result (λ next. IfSome next (BringsOf self.old)) }
+        ensures comes { IfOk result (λ next. IfSome next (ComesBehind self.old self.new)) }
+        ensures accepts { IfOk result (λ next. IfNone next (AcceptsNone self.old self.new)) }
         ensures stops { IfErr result (λ stop. FeedStops self.old self.new stop) }
     {
         let stream = self.stream;

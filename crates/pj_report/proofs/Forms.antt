@@ -1,6 +1,7 @@
 -- Results in the order of their lines.
-use Rattle.std.proofs.Common.{◌≡◌, ◌+◌, ℕ, Bool, true, false, cond, List, [], ◌∷◌, ◌++◌, map, refl, ap, ap₂, sym, ◌∙◌, append-nil, arith}
+use Rattle.std.proofs.Common.{◌≡◌, ◌≤◌, ◌+◌, ℕ, Bool, true, false, cond, List, [], ◌∷◌, ◌++◌, map, refl, ap, ap₂, sym, ◌∙◌, append-nil, arith}
 use Rattle.std.proofs.lemmas.List.{map-append}
+use Rattle.std.specs.Prelude.{ℤ, pos}
 use Rattle.pj_value.specs.Bags.{weigh, SameBag}
 use Rattle.pj_value.specs.declared.values.Value.{Value}
 use Rattle.pj_pattern.specs.Patterns.{Pattern}
@@ -13,11 +14,12 @@ use Rattle.pj_events.specs.Outcomes.{elements_out}
 use Rattle.pj_plan.specs.declared.node.PlanNode.{PlanNode}
 use Rattle.pj_report.specs.declared.kept.KeptLines.{KeptLines}
 use Rattle.pj_report.specs.declared.writer.Form.{Form}
-use Rattle.pj_report.specs.declared.writer.Form.TheVariants.{AsTheyCome, Sorted}
+use Rattle.pj_report.specs.declared.writer.Form.TheVariants.{AsTheyCome, Sorted, Summed}
 use Rattle.pj_report.specs.declared.results.Counts.{Counts}
 use Rattle.pj_report.specs.declared.writer.ResultWriter.{ResultWriter}
-use Rattle.pj_report.specs.Forms.{form_lines, kept_of, put_by, shown, sort_by, taken_so_far, withheld}
+use Rattle.pj_report.specs.Forms.{form_lines, in_form, kept_of, put_by, shown, sort_by, taken_so_far, withheld}
 use Rattle.pj_report.specs.Results.{counts_of, out_lines}
+use Rattle.pj_report.specs.Sums.{total_of}
 use Rattle.pj_report.specs.Laws.{FormedAreLawful, FormedPuncts, FormedRows, SortedAreElements}
 use Rattle.pj_report.specs.Sorted.{fed_punct, fed_row, is_below, punct_lines, put_line, row_lines, sorted_lines}
 use Rattle.pj_report.proofs.Counting.{out_lines-append, punct_lines-append, row_lines-append}
@@ -27,32 +29,47 @@ use Rattle.pj_report.proofs.Counting.{out_lines-append, punct_lines-append, row_
 pub shown-append : (form : Form) (nodes : List PlanNode) (xs ys : List Out) → shown form nodes (xs ++ ys) ≡ shown form nodes xs ++ shown form nodes ys
 shown-append AsTheyCome nodes xs ys = out_lines-append nodes xs ys
 shown-append Sorted nodes xs ys = refl
+shown-append Summed nodes xs ys = refl
 
 pub shown-nil : (form : Form) (nodes : List PlanNode) → shown form nodes [] ≡ []
 shown-nil AsTheyCome nodes = refl
 shown-nil Sorted nodes = refl
+shown-nil Summed nodes = refl
 
 -- all lines are those that are written as they come, and behind them those that are written at the end
 pub all_shown : (form : Form) (nodes : List PlanNode) (outs : List Out) → shown form nodes outs ++ withheld form (elements_out outs) ≡ form_lines form nodes outs
 all_shown AsTheyCome nodes outs = append-nil (out_lines nodes outs)
 all_shown Sorted nodes outs = refl
+all_shown Summed nodes outs = refl
 
 -- what is kept is written in order
 pub kept_sorted : (form : Form) (es : List Element) (kept : KeptLines) → kept ≡ kept_of form es → sorted_lines kept.rows ++ sorted_lines kept.puncts ≡ withheld form es
 kept_sorted AsTheyCome es kept is = ap (λ (k : KeptLines). sorted_lines k.rows ++ sorted_lines k.puncts) is
 kept_sorted Sorted es kept is = ap (λ (k : KeptLines). sorted_lines k.rows ++ sorted_lines k.puncts) is
+kept_sorted Summed es kept is = ap (λ (k : KeptLines). sorted_lines k.rows ++ sorted_lines k.puncts) is
 
 -- what is kept behind more
 pub kept_taken : (old : ResultWriter) (counts : Counts) (kept : KeptLines) (before more : List Element) (form : Form) → old.form ≡ Sorted → kept.rows ≡ old.kept.rows ++ row_lines more → kept.puncts ≡ old.kept.puncts ++ punct_lines more
     → (old.counts ≡ counts_of before → counts ≡ counts_of (before ++ more)) → old ≡ taken_so_far form before
-    → ◌≡◌ {A = ResultWriter} (record { form = old.form; counts = counts; kept = kept }) (taken_so_far form (before ++ more))
+    → ◌≡◌ {A = ResultWriter} (record { form = old.form; counts = counts; kept = kept; total = old.total }) (taken_so_far form (before ++ more))
 kept_taken old counts kept before more AsTheyCome sorted rows puncts counted is = absurd (let e : AsTheyCome ≡ Sorted = sym (ap (λ (w : ResultWriter). w.form) is) ∙ sorted in cc)
 kept_taken old counts kept before more Sorted sorted rows puncts counted is =
     let all_rows = rows ∙ (ap (λ (w : ResultWriter). w.kept.rows ++ row_lines more) is ∙ sym (row_lines-append before more)) in
     let all_puncts = puncts ∙ (ap (λ (w : ResultWriter). w.kept.puncts ++ punct_lines more) is ∙ sym (punct_lines-append before more)) in
     let all_kept : ◌≡◌ {A = KeptLines} kept (kept_of Sorted (before ++ more)) = ap₂ (λ (rs ps : List (List ℕ)). let k : KeptLines = record { rows = rs; puncts = ps } in k) all_rows all_puncts in
-    ap (λ (f : Form). let w : ResultWriter = record { form = f; counts = counts; kept = kept } in w) sorted
-    ∙ ap₂ (λ (c : Counts) (k : KeptLines). let w : ResultWriter = record { form = Sorted; counts = c; kept = k } in w) (counted (ap (λ (w : ResultWriter). w.counts) is)) all_kept
+    ap₂ (λ (f : Form) (t : ℤ). let w : ResultWriter = record { form = f; counts = counts; kept = kept; total = t } in w) sorted (ap (λ (w : ResultWriter). w.total) is)
+    ∙ ap₂ (λ (c : Counts) (k : KeptLines). let w : ResultWriter = record { form = Sorted; counts = c; kept = k; total = pos 0 } in w) (counted (ap (λ (w : ResultWriter). w.counts) is)) all_kept
+kept_taken old counts kept before more Summed sorted rows puncts counted is = absurd (let e : Summed ≡ Sorted = sym (ap (λ (w : ResultWriter). w.form) is) ∙ sorted in cc)
+
+-- what is summed behind more
+pub sum_taken : (old : ResultWriter) (counts : Counts) (total : ℤ) (before more : List Element) (form : Form) → old.form ≡ Summed
+    → (old.counts ≡ counts_of before → counts ≡ counts_of (before ++ more)) → (old.total ≡ total_of before → total ≡ total_of (before ++ more)) → old ≡ taken_so_far form before
+    → ◌≡◌ {A = ResultWriter} (record { form = old.form; counts = counts; kept = old.kept; total = total }) (taken_so_far form (before ++ more))
+sum_taken old counts total before more AsTheyCome summed counted totalled is = absurd (let e : AsTheyCome ≡ Summed = sym (ap (λ (w : ResultWriter). w.form) is) ∙ summed in cc)
+sum_taken old counts total before more Sorted summed counted totalled is = absurd (let e : Sorted ≡ Summed = sym (ap (λ (w : ResultWriter). w.form) is) ∙ summed in cc)
+sum_taken old counts total before more Summed summed counted totalled is =
+    ap₂ (λ (f : Form) (k : KeptLines). let w : ResultWriter = record { form = f; counts = counts; kept = k; total = total } in w) summed (ap (λ (w : ResultWriter). w.kept) is)
+    ∙ ap₂ (λ (c : Counts) (t : ℤ). let w : ResultWriter = record { form = Summed; counts = c; kept = kept_of Summed (before ++ more); total = t } in w) (counted (ap (λ (w : ResultWriter). w.counts) is)) (totalled (ap (λ (w : ResultWriter). w.total) is))
 
 -- ---- in order of lines
 
@@ -134,16 +151,25 @@ module _ (rs : List (List Value)) (ps : List (List Pattern)) where
 -- ---- a form
 
 pub formed_rows : FormedRows
-formed_rows AsTheyCome es f = refl
-formed_rows Sorted es f = ap (weigh f) (rows_first (sort_by fed_row (rows_of es)) (sort_by fed_punct (puncts_of es))) ∙ sort_same fed_row (rows_of es) f
+formed_rows AsTheyCome es writes f = refl
+formed_rows Sorted es writes f = ap (weigh f) (rows_first (sort_by fed_row (rows_of es)) (sort_by fed_punct (puncts_of es))) ∙ sort_same fed_row (rows_of es) f
+formed_rows Summed es writes f = absurd writes
 
 pub formed_puncts : FormedPuncts
-formed_puncts AsTheyCome es f = refl
-formed_puncts Sorted es f = ap (weigh f) (puncts_then (sort_by fed_row (rows_of es)) (sort_by fed_punct (puncts_of es))) ∙ sort_same fed_punct (puncts_of es) f
+formed_puncts AsTheyCome es writes f = refl
+formed_puncts Sorted es writes f = ap (weigh f) (puncts_then (sort_by fed_row (rows_of es)) (sort_by fed_punct (puncts_of es))) ∙ sort_same fed_punct (puncts_of es) f
+formed_puncts Summed es writes f = absurd writes
+
+-- no form writes a row more often than it was handed out
+pub formed_at_most : (form : Form) (es : List Element) (f : List Value → ℕ) → weigh f (rows_of (in_form form es)) ≤ weigh f (rows_of es)
+formed_at_most AsTheyCome es f = omega arith
+formed_at_most Sorted es f = let same = formed_rows Sorted es tt f in omega (arith, same)
+formed_at_most Summed es f = omega arith
 
 pub formed_lawful : FormedAreLawful
 formed_lawful AsTheyCome es lawful = lawful
 formed_lawful Sorted es lawful = let ps = sort_by fed_punct (puncts_of es) in rows_lawful [] ps (sort_by fed_row (rows_of es))
+formed_lawful Summed es lawful = tt
 
 pub sorted_elements : SortedAreElements
 sorted_elements es =

@@ -6,3 +6,5 @@ pub mod NodeNames
 pub mod Sorting
 pub mod LineLists
 pub mod Forms
+pub mod Summing
+pub mod Exact

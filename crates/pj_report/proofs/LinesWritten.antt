@@ -1,5 +1,5 @@
 -- Lines that were written, one after another.
-use Rattle.std.proofs.Common.{◌≡◌, ◌<◌, ℕ, List, [], ◌∷◌, ◌++◌, length, take, drop, map, Result, Ok, Err, refl, ap, sym, ◌∙◌, append_assoc, append-nil, subst, IsErrAnd, get_or, ◌+◌, arith}
+use Rattle.std.proofs.Common.{◌≡◌, ◌<◌, ℕ, List, [], ◌∷◌, ◌++◌, length, take, drop, map, Result, Ok, Err, refl, ap, sym, ◌∙◌, append_assoc, append-nil, subst, IsErrAnd, get_or, ◌+◌}
 use Rattle.std.proofs.lemmas.List.{take-append-drop, take_more, map-append}
 use Rattle.pj_io.specs.Pieces.{GrewByLess}
 use Rattle.pj_io.specs.States.{SinkState}

@@ -1,6 +1,7 @@
 -- Laws of the lines of what is handed out.
-use Rattle.std.specs.Prelude.{◌≡◌, ℕ, List, not, filter}
+use Rattle.std.specs.Prelude.{◌≡◌, ◌≤◌, ◌^◌, ℕ, pos, List, length, not, filter}
 use Rattle.std.specs.List.Sorted.{IsSortedBy}
+use Rattle.pj_value.specs.declared.values.Value.{Value}
 use Rattle.pj_value.specs.Bags.{SameBag}
 use Rattle.pj_pattern.specs.declared.element.Element.{Element}
 use Rattle.pj_element.specs.Runs.{rows_of, puncts_of, element_lines, IsLawful}
@@ -9,9 +10,10 @@ use Rattle.pj_events.specs.Outcomes.{elements_out}
 use Rattle.pj_plan.specs.declared.node.PlanNode.{PlanNode}
 use Rattle.pj_report.specs.declared.writer.Form.{Form}
 use Rattle.pj_report.specs.declared.writer.Form.TheVariants.{Sorted}
-use Rattle.pj_report.specs.Forms.{in_form}
+use Rattle.pj_report.specs.Forms.{in_form, WritesResults}
 use Rattle.pj_report.specs.Results.{out_lines, NoneNoted}
 use Rattle.pj_report.specs.Sorted.{is_below, sorted_lines, sorted_form}
+use Rattle.pj_report.specs.Sums.{exact_sum, HasSmallEnds, sum_behind}
 use Rattle.pj_report.specs.Written.{is_note}
 
 -- without notes, the lines are those of the elements
@@ -42,12 +44,12 @@ FormByBags = (es fs : List Element) → SameBag (rows_of es) (rows_of fs) → Sa
 
 -- ---- forms
 
--- in each form the same rows are written, each as often, and the same punctuations
+-- in each form that writes results the same rows are written, each as often, and the same punctuations
 abbrev pub FormedRows : Type 0
-FormedRows = (form : Form) (es : List Element) → SameBag (rows_of (in_form form es)) (rows_of es)
+FormedRows = (form : Form) (es : List Element) → WritesResults form → SameBag (rows_of (in_form form es)) (rows_of es)
 
 abbrev pub FormedPuncts : Type 0
-FormedPuncts = (form : Form) (es : List Element) → SameBag (puncts_of (in_form form es)) (puncts_of es)
+FormedPuncts = (form : Form) (es : List Element) → WritesResults form → SameBag (puncts_of (in_form form es)) (puncts_of es)
 
 -- lawful elements are lawful in the order in which a form writes them
 abbrev pub FormedAreLawful : Type 0
@@ -56,3 +58,13 @@ FormedAreLawful = (form : Form) (es : List Element) → IsLawful es → IsLawful
 -- the sorted form is that of the elements in this order
 abbrev pub SortedAreElements : Type 0
 SortedAreElements = (es : List Element) → element_lines (in_form Sorted es) ≡ sorted_form es
+
+-- ---- sums
+
+-- where the last column has numbers from 0 to 2^31 alone, and there are at most 2^31 rows, the sum that stops at 64 bits is exact
+abbrev pub TotalsAreExact : Type 0
+TotalsAreExact = (rows : List (List Value)) → HasSmallEnds rows → length rows ≤ 2 ^ 31 → sum_behind (pos 0) rows ≡ exact_sum rows
+
+-- the exact sum depends on how often each row is there, and on nothing else
+abbrev pub ExactSumsByBag : Type 0
+ExactSumsByBag = (rows others : List (List Value)) → SameBag rows others → exact_sum rows ≡ exact_sum others

@@ -3,4 +3,5 @@ pub mod Laws
 pub mod Report
 pub mod Results
 pub mod Sorted
+pub mod Sums
 pub mod Written

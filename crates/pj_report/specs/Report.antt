@@ -1,6 +1,6 @@
 -- The report of a run and the lines of the statuses, each with its line feed.
-use Rattle.std.specs.Prelude.{ℕ, ◌^◌, ◌-◌, min, ⊤, List, [], ◌∷◌, ◌++◌, map, length, codes}
-use Rattle.std.specs.Fmt.{decimal}
+use Rattle.std.specs.Prelude.{ℕ, ℤ, ◌^◌, ◌-◌, min, ⊤, List, [], ◌∷◌, ◌++◌, map, length, codes}
+use Rattle.std.specs.Fmt.{decimal, signed_decimal}
 use Rattle.pj_pattern.specs.declared.element.Element.{Element}
 use Rattle.pj_element.specs.declared.element.Reject.{Reject}
 use Rattle.pj_element.specs.declared.element.Reject.TheVariants.{TooLong, NotElement, Arity, BadCell, WrongKind, Closed}
@@ -51,6 +51,14 @@ peak_line name peak = fed (codes "# peak " ++ name ++ codes " " ++ decimal peak)
 -- `# check N`
 abbrev pub check_line : ℕ → List ℕ
 check_line rows = fed (codes "# check " ++ decimal rows)
+
+-- `# total X`: the sum of the last column of the result rows
+abbrev pub total_line : ℤ → List ℕ
+total_line total = fed (codes "# total " ++ signed_decimal total)
+
+-- `# make SEED N`
+abbrev pub make_line : ℕ → ℕ → List ℕ
+make_line seed count = fed (codes "# make " ++ decimal seed ++ codes " " ++ decimal count)
 
 -- the words of a plan's fault, behind its number
 abbrev pub fault_words : PlanWhy → List ℕ

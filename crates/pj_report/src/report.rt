@@ -3,7 +3,7 @@ ghost use Rattle.std.specs.Prelude.{◌≡◌, ◌≤◌, ◌++◌, ◌∷◌, [
 ghost use Rattle.std.specs.Fmt.{decimal};
 ghost use Rattle.pj_io.specs.Causes.{Rose};
 ghost use Rattle.pj_element.specs.Runs.{fed};
-ghost use Rattle.pj_report.specs.Report.{check_line, stream_line, stream_lines, reject_line, reject_words, results_text, peak_line};
+ghost use Rattle.pj_report.specs.Report.{check_line, make_line, stream_line, stream_lines, reject_line, reject_words, results_text, peak_line, total_line};
 ghost use Rattle.pj_report.specs.Written.{WritesBy, write_cut};
 
 use crate::lines::write_piece;
@@ -101,6 +101,58 @@ fn check_text(rows: u64, text: &mut List<u8>) -> Result<(), NoMemory>
     text.truncate(0);
     text.append(b"# check ")?;
     append_number(rows, text)?;
+    text.push(b'\n')?;
+    Ok(())
+}
+
+/// Writes the line of the sum of the last column of the result rows.
+pub fn write_total<K: Sink>(total: i64, text: &mut List<u8>, out: &mut K) -> Result<(), WriteStop>
+    ensures told { IsTrue (K.state out.new).told → IsTrue (K.state out.old).told }
+    ensures lines { IsTrue (K.state out.new).told → WritesBy write_cut (total_line total ∷ []) (K.state out.old) (K.state out.new) result }
+    ensures later { (K.state out.old).faults ≤ (K.state out.new).faults }
+    ensures fault { result ≡ Err WriteStop.Failed → Rose (K.state out.old).faults (K.state out.new).faults }
+{
+    total_text(total, text)?;
+    write_piece(out, text.as_slice())?;
+    Ok(())
+}
+
+fn total_text(total: i64, text: &mut List<u8>) -> Result<(), NoMemory>
+    ensures { OnOk result (text.new ≡ total_line total) }
+{
+    let mut digits = Buffer::new();
+    text.truncate(0);
+    text.append(b"# total ")?;
+    text.append(digits.format(total).as_bytes())?;
+    text.push(b'\n')?;
+    Ok(())
+}
+
+/// Writes the line with which the summary of a made input begins: its seed, and how many items it has.
+pub fn write_make<K: Sink>(
+    seed: u32,
+    count: u32,
+    text: &mut List<u8>,
+    out: &mut K,
+) -> Result<(), WriteStop>
+    ensures told { IsTrue (K.state out.new).told → IsTrue (K.state out.old).told }
+    ensures lines { IsTrue (K.state out.new).told → WritesBy write_cut (make_line seed count ∷ []) (K.state out.old) (K.state out.new) result }
+    ensures later { (K.state out.old).faults ≤ (K.state out.new).faults }
+    ensures fault { result ≡ Err WriteStop.Failed → Rose (K.state out.old).faults (K.state out.new).faults }
+{
+    make_text(seed, count, text)?;
+    write_piece(out, text.as_slice())?;
+    Ok(())
+}
+
+fn make_text(seed: u32, count: u32, text: &mut List<u8>) -> Result<(), NoMemory>
+    ensures { OnOk result (text.new ≡ make_line seed count) }
+{
+    text.truncate(0);
+    text.append(b"# make ")?;
+    append_number(u64::from(seed), text)?;
+    text.push(b' ')?;
+    append_number(u64::from(count), text)?;
     text.push(b'\n')?;
     Ok(())
 }

@@ -1,15 +1,14 @@
 // What becomes of what a run hands out.
-ghost use Rattle.std.specs.Prelude.{◌≡◌, ◌≤◌, [], List, IsTrue, OnOk, Err};
-ghost use Rattle.pj_pattern.specs.declared.element.Element.{Element};
+ghost use Rattle.std.specs.Prelude.{◌≡◌, ◌≤◌, [], IsTrue, OnOk, Err};
 ghost use Rattle.pj_io.specs.Causes.{Rose};
 ghost use Rattle.pj_events.specs.Outcomes.{elements_out};
-ghost use Rattle.pj_report.specs.Forms.{shown, withheld, taken_so_far, TakesMore};
+ghost use Rattle.pj_report.specs.Forms.{shown, taken_so_far, TakesMore, WritesWithheld};
 ghost use Rattle.pj_report.specs.Written.{WritesBy, write_cut};
-ghost use Rattle.pj_report.specs.declared.writer.Form.{Form as FormOf};
 
 use crate::kept::KeptLines;
 use crate::results::{Counts, write_outs};
 use crate::stops::WriteStop;
+use crate::sums::sum_outs;
 use pj_events::Out;
 use pj_io::Sink;
 use pj_plan::Plan;
@@ -23,6 +22,8 @@ pub enum Form {
     AsTheyCome,
     /// Once all were handed out: the lines of the rows in order of their bytes, and then those of the punctuations.
     Sorted,
+    /// None of them: the last column of the rows is summed, and the sum stops at the least and the greatest number of 64 bits.
+    Summed,
 }
 
 /// Writes what a run hands out, or keeps it to be written at the end, and counts it.
@@ -31,6 +32,7 @@ pub struct ResultWriter {
     form: Form,
     counts: Counts,
     kept: KeptLines,
+    total: i64,
 }
 
 impl ResultWriter {
@@ -42,6 +44,7 @@ impl ResultWriter {
             form,
             counts: Counts { rows: 0, puncts: 0 },
             kept: KeptLines::new(alloc),
+            total: 0,
         }
     }
 
@@ -57,6 +60,13 @@ impl ResultWriter {
         ensures { result ≡ self.now.counts }
     {
         self.counts
+    }
+
+    /// The sum of the last column of the rows that it has taken; 0 in a form that sums nothing.
+    pub fn total(&self) -> i64
+        ensures { result ≡ self.now.total }
+    {
+        self.total
     }
 
     /// Takes what was handed out, and writes the lines of it that are written as they come, each by a `write_all` of its own.
@@ -79,6 +89,7 @@ impl ResultWriter {
         match self.form {
             Form::AsTheyCome => write_outs(alloc, plan, outs, &mut self.counts, text, out)?,
             Form::Sorted => self.kept.keep(alloc, outs, &mut self.counts)?,
+            Form::Summed => sum_outs(outs, &mut self.counts, &mut self.total),
         }
         Ok(())
     }
@@ -86,7 +97,7 @@ impl ResultWriter {
     /// Writes the lines that are written once all was taken, each by a `write_all` of its own.
     pub fn finish<K: Sink>(&self, alloc: Global, out: &mut K) -> Result<(), WriteStop>
         ensures told { IsTrue (K.state out.new).told → IsTrue (K.state out.old).told }
-        ensures lines { (form : FormOf) (all : List Element) → self.now ≡ taken_so_far form all → IsTrue (K.state out.new).told → WritesBy write_cut (withheld form all) (K.state out.old) (K.state out.new) result }
+        ensures lines { WritesWithheld self.now (K.state out.old) (K.state out.new) result }
         ensures later { (K.state out.old).faults ≤ (K.state out.new).faults }
         ensures fault { result ≡ Err WriteStop.Failed → Rose (K.state out.old).faults (K.state out.new).faults }
     {

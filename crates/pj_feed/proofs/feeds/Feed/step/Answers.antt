@@ -2,7 +2,7 @@ use Rattle.std.proofs.Common.{◌∙◌, refl, ap, subst, sym, true, ◌≡◌, 
 use Rattle.pj_pattern.specs.declared.element.Element.TheVariants.{Tuple as TupleOf, Punct as PunctOf}
 use Rattle.pj_intake.specs.declared.intake.Step.TheVariants.{Tuple, Punct, Rejected, End}
 use Rattle.pj_feed.specs.Feeds.{FeedState, feed_of, IsFed}
-use Rattle.pj_feed.proofs.Stepping.{Stepped, stepped_fed, element_gives, element_works, reject_passes, reject_works, end_gives, end_fed, end_works, step_stops}
+use Rattle.pj_feed.proofs.Stepping.{Stepped, stepped_fed, element_gives, element_comes, element_works, end_comes, reject_accepts, reject_passes, reject_works, end_gives, end_fed, end_works, step_stops}
 use Rattle.pj_feed.proofs.feeds.Feed.step.Given.{Over}
 use Rattle.pj_feed.proofs.feeds.Feed.step.Goals.{After-next}
 use Rattle.pj_feed.proofs.feeds.Feed.step.Goals as goal
@@ -111,3 +111,27 @@ pub returns-in-Err-clause-stops : goal.returns-in-Err-clause-stops
 returns-in-Err-clause-stops g c =
     let a = (goal.at.returns-in-Err-clause-stops g c).After-next in
     rw (← c.self.view_is) (step_stops _ _ c.in-Err.stop (fed g a) (subst (Stepped (before g a) (behind g a)) c.in-Err.is (step g a)))
+
+pub returns-in-Ok-Tuple-clause-comes : goal.returns-in-Ok-Tuple-clause-comes
+returns-in-Ok-Tuple-clause-comes g c =
+    let a = (goal.at.returns-in-Ok-Tuple-clause-comes g c).After-next in
+    let s = subst (Stepped (before g a) (behind g a)) (c.in-Ok-Tuple.is ∙ ap Ok c.in-Ok-Tuple.field-0-is) (step g a) in
+    rw (← c.self.view_is) (element_comes _ _ (Tuple c.in-Ok-Tuple.row) (still g a) s (TupleOf c.in-Ok-Tuple.row) refl)
+
+pub returns-in-Ok-Punct-clause-comes : goal.returns-in-Ok-Punct-clause-comes
+returns-in-Ok-Punct-clause-comes g c =
+    let a = (goal.at.returns-in-Ok-Punct-clause-comes g c).After-next in
+    let s = subst (Stepped (before g a) (behind g a)) (c.in-Ok-Punct.is ∙ ap Ok c.in-Ok-Punct.field-0-is) (step g a) in
+    rw (← c.self.view_is) (element_comes _ _ (Punct c.in-Ok-Punct.punct) (still g a) s (PunctOf c.in-Ok-Punct.punct) refl)
+
+pub returns-in-Ok-Rejected-clause-accepts : goal.returns-in-Ok-Rejected-clause-accepts
+returns-in-Ok-Rejected-clause-accepts g c =
+    let a = (goal.at.returns-in-Ok-Rejected-clause-accepts g c).After-next in
+    let s = subst (Stepped (before g a) (behind g a)) (c.in-Ok-Rejected.is ∙ ap Ok c.in-Ok-Rejected.field-0-is) (step g a) in
+    rw (← c.self.view_is) (reject_accepts _ _ (Rejected c.in-Ok-Rejected.field-0-0 c.in-Ok-Rejected.field-0-1) (still g a) s refl)
+
+pub returns-in-Ok-End-clause-comes : goal.returns-in-Ok-End-clause-comes
+returns-in-Ok-End-clause-comes g c =
+    let a = (goal.at.returns-in-Ok-End-clause-comes g c).After-next in
+    let s = subst (Stepped (before g a) (behind g a)) (c.in-Ok-End.is ∙ ap Ok c.in-Ok-End.field-0-is) (step g a) in
+    rw (← c.self.view_is) (end_comes _ _ End (still g a) s refl)

@@ -1,0 +1,10 @@
+pub mod Lengths
+pub mod Plans
+pub mod Punctuations
+pub mod Lines
+pub mod Bids
+pub mod Joins
+pub mod Limits
+pub mod Prices
+pub mod Groups
+pub mod Totals
