@@ -1,5 +1,5 @@
 -- A call that nothing hinders is run to its end.
-use Rattle.std.proofs.Common.{Bool, false, ◌≡◌, ◌<◌, ◌+◌, ℕ, zero, suc, ◌⊎◌, inl, inr, List, [], ◌∷◌, length, IsTrue, refl, ap, sym, ◌∙◌, subst, arith}
+use Rattle.std.proofs.Common.{Bool, ◌≡◌, ◌<◌, ◌+◌, ℕ, zero, suc, ◌⊎◌, inl, inr, List, [], ◌∷◌, length, IsTrue, refl, ap, sym, ◌∙◌, subst, arith, true}
 use Rattle.std.specs.Prelude.{slice_index_or}
 use Rattle.std.proofs.lemmas.Bool.{false≢true}
 use Rattle.std.proofs.lemmas.List.{get_or-map, length-map}
@@ -7,7 +7,7 @@ use Rattle.pj_io.specs.States.{FolderState, SinkState}
 use Rattle.pj_report.specs.declared.status.Status.{Status}
 use Rattle.pj_report.specs.declared.status.Status.TheVariants.{Done, Usage, OpenFault, ReadFault, PlanRefused, FileCount, Unsafe, WriteFault, NoMemory, Limit}
 use Rattle.pj_report.specs.declared.status.LimitOf.TheVariants.{Plan, Node, File}
-use Rattle.pj_alone.specs.Calls.{nothing, running, checking, takes_plan, Task, Call, job_if, job_with, IsTold, behind_first, file_names, operand, stream_files}
+use Rattle.pj_alone.specs.Calls.{nothing, running, checking, making, is_nothing, takes_plan, Task, Call, job_if, job_with, IsTold, behind_first, file_names, operand, stream_files}
 use Rattle.pj_feed.specs.Named.{AreTold}
 use Rattle.pj_run.specs.Jobs.{Job}
 use Rattle.pj_alone.specs.Completeness.{Completes, NoneRose, RoomFor}
@@ -17,7 +17,7 @@ use Rattle.pj_alone.proofs.EarlyLaws.{IsOfPlan, fit_never}
 
 -- when each status comes that is neither done nor want of memory
 pub record HasCauses (answer : Status) (call : Call) (after : FolderState) (old new : SinkState) : Type 0 where
-  pub usage : answer ≡ Usage → takes_plan call.task ≡ false
+  pub usage : answer ≡ Usage → is_nothing call.task ≡ true
   pub refused : (status : Status) → answer ≡ status → IsOfPlan status → IsRefused call status
   pub open_fault : (n : ℕ) → answer ≡ OpenFault n → IsUnopened call after n
   pub read_fault : (n : ℕ) → answer ≡ ReadFault n → HasFault call after n
@@ -65,7 +65,7 @@ module _ (call : Call) (after : FolderState) (old new : SinkState) (told : IsTol
 
   completes : (answer : Status) → HasCauses answer call after old new → (answer ≡ Done) ⊎ (answer ≡ NoMemory)
   completes Done c = inl refl
-  completes Usage c = absurd (false≢true (sym (c.usage refl) ∙ ap takes_plan built.form))
+  completes Usage c = absurd (false≢true (sym (ap is_nothing built.form) ∙ c.usage refl))
   completes (PlanRefused line why) c = absurd (never_refused (PlanRefused line why) (c.refused (PlanRefused line why) refl tt))
   completes (FileCount want got) c = absurd (never_refused (FileCount want got) (c.refused (FileCount want got) refl tt))
   completes (Unsafe node risk) c = absurd (never_refused (Unsafe node risk) (c.refused (Unsafe node risk) refl tt))
@@ -90,7 +90,7 @@ module _ (call : Call) (after : FolderState) (old new : SinkState) (told : IsTol
 
   checks : (answer : Status) → HasCauses answer call after old new → (answer ≡ Done) ⊎ (answer ≡ NoMemory)
   checks Done c = inl refl
-  checks Usage c = absurd (false≢true (sym (c.usage refl) ∙ ap takes_plan task))
+  checks Usage c = absurd (false≢true (sym (ap is_nothing task) ∙ c.usage refl))
   checks (PlanRefused line why) c = absurd (check_refused (PlanRefused line why) (c.refused (PlanRefused line why) refl tt))
   checks (FileCount want got) c = absurd (check_refused (FileCount want got) (c.refused (FileCount want got) refl tt))
   checks (Unsafe node risk) c = absurd (check_refused (Unsafe node risk) (c.refused (Unsafe node risk) refl tt))
@@ -102,6 +102,31 @@ module _ (call : Call) (after : FolderState) (old new : SinkState) (told : IsTol
   checks (Limit (Node node)) c = absurd (check_built (c.limit node refl).built)
   checks (Limit (File stream)) c = absurd (check_built (c.file_limit stream refl).built)
 
+-- a made input, of which nothing is refused
+module _ (call : Call) (after : FolderState) (old new : SinkState) (told : IsTold call) (seed count : ℕ) (task : call.task ≡ making seed count) (none : NoneRose call after old new) where
+  make_refused : (status : Status) → IsRefused call status → ⊥
+  make_refused status refused = false≢true (sym (ap takes_plan task) ∙ refused.0)
+
+  make_faulted : (n : ℕ) → HasFault call after n → ⊥
+  make_faulted n fault = none.files n fault.first fault.last fault.rose
+
+  make_built : IsBuilt call → ⊥
+  make_built built = let e : making seed count ≡ running = sym task ∙ built.form in cc
+
+  makes : (answer : Status) → HasCauses answer call after old new → (answer ≡ Done) ⊎ (answer ≡ NoMemory)
+  makes Done c = inl refl
+  makes Usage c = absurd (false≢true (sym (ap is_nothing task) ∙ c.usage refl))
+  makes (PlanRefused line why) c = absurd (make_refused (PlanRefused line why) (c.refused (PlanRefused line why) refl tt))
+  makes (FileCount want got) c = absurd (make_refused (FileCount want got) (c.refused (FileCount want got) refl tt))
+  makes (Unsafe node risk) c = absurd (make_refused (Unsafe node risk) (c.refused (Unsafe node risk) refl tt))
+  makes (OpenFault n) c = absurd (make_faulted n (c.open_fault n refl).fault)
+  makes (ReadFault n) c = absurd (make_faulted n (c.read_fault n refl))
+  makes WriteFault c = absurd (none.sink (c.write_fault refl).0)
+  makes NoMemory c = inr refl
+  makes (Limit Plan) c = absurd (make_refused (Limit Plan) (c.refused (Limit Plan) refl tt))
+  makes (Limit (Node node)) c = absurd (make_built (c.limit node refl).built)
+  makes (Limit (File stream)) c = absurd (make_built (c.file_limit stream refl).built)
+
 -- where each other status has its cause, the call is done or memory was wanting
 pub completes_by : (answer : Status) (call : Call) (after : FolderState) (old new : SinkState) → HasCauses answer call after old new → Completes answer call after old new
 completes_by answer call after old new causes told fit none room = go call.task refl fit room
@@ -110,3 +135,4 @@ completes_by answer call after old new causes told fit none room = go call.task 
     go nothing is fit room = absurd fit
     go running is built room = completes call after old new told built none room answer causes
     go (checking print) is fit room = checks call after old new told print is fit none answer causes
+    go (making seed count) is fit room = makes call after old new told seed count is none answer causes

@@ -1,5 +1,5 @@
 -- A call that has no plan to run: what is opened and written, and why.
-use Rattle.std.proofs.Common.{◌≡◌, ◌≤◌, ◌<◌, ℕ, zero, suc, true, false, inl, inr, List, [], ◌∷◌, length, take, slice_index_or, Option, Some, None, Result, Ok, Err, refl, ap, ap₂, sym, ◌∙◌, subst, arith}
+use Rattle.std.proofs.Common.{◌≡◌, ◌≤◌, ◌<◌, ℕ, zero, suc, true, inl, inr, List, [], ◌∷◌, length, take, slice_index_or, Option, Some, None, Result, Ok, Err, refl, ap, ap₂, sym, ◌∙◌, subst, arith}
 use Rattle.std.proofs.lemmas.Bool.{false≢true}
 use Rattle.pj_io.specs.Causes.{Rose}
 use Rattle.pj_io.specs.States.{FolderState, SinkState}
@@ -21,7 +21,7 @@ use Rattle.pj_events.specs.declared.events.Stop.TheVariants.{Limit as CoreLimit,
 use Rattle.pj_alone.specs.declared.stops.FileStop.TheVariants.{OpenFault as NotOpened, ReadFault as NotRead, TooLong, NoMemory as FileMemory}
 use Rattle.pj_alone.specs.declared.stops.PlanStop.{PlanStop}
 use Rattle.pj_alone.specs.declared.stops.PlanStop.TheVariants.{Usage as NoPlan, File as PlanFile, Refused, FileCount as OtherCount, Unsafe as Stuck, NoMemory as PlanMemory}
-use Rattle.pj_alone.specs.Calls.{nothing, running, checking, takes_plan, Task, Call, HasToldPlan, operand, file_names, files_asked, files_for, plan_bytes}
+use Rattle.pj_alone.specs.Calls.{nothing, running, checking, making, is_nothing, takes_plan, Task, Call, HasToldPlan, operand, file_names, files_asked, files_for, plan_bytes}
 use Rattle.pj_alone.specs.Plans.{plan_of}
 use Rattle.pj_feed.specs.Opened.{OpensFirst, OpensAtMost, StayOutside}
 use Rattle.pj_judge.specs.declared.safety.Unsafe.{Unsafe as Found}
@@ -56,6 +56,7 @@ stuck_runs call found plan u = go call.task refl u
     go nothing is unfit = absurd unfit
     go running is unfit = is
     go (checking print) is unfit = absurd unfit
+    go (making seed count) is unfit = absurd unfit
 
 -- nothing was done, and the status' line was written
 pub ended_at_words : (call : Call) (status : Status) (new : FolderState) (first after : SinkState) → ComesAt status at_words → new ≡ call.folder → EarlyLeaves status call first after → Ends (ending_of call status new first after)
@@ -159,7 +160,7 @@ module _ (call : Call) (new : FolderState) where
 pub usage_alone : {T : Type 0} (result : Result T PlanStop) (stop : PlanStop) → result ≡ Err stop → result ≡ Err NoPlan → stop ≡ NoPlan
 usage_alone result stop is none = let e : Err stop ≡ Err NoPlan = sym is ∙ none in cc e
 
-pub no_words : (stop : PlanStop) (call : Call) (after : FolderState) → Unprepared stop call after → plan_status stop ≡ Usage → takes_plan call.task ≡ false
+pub no_words : (stop : PlanStop) (call : Call) (after : FolderState) → Unprepared stop call after → plan_status stop ≡ Usage → is_nothing call.task ≡ true
 no_words NoPlan call after u e = u.0
 no_words (PlanFile NotOpened) call after u e = absurd (cc)
 no_words (PlanFile NotRead) call after u e = absurd (cc)
@@ -251,10 +252,17 @@ bytes_alone files bytes one other (inl a) (inr b) = absurd (let more = a.0 in le
 bytes_alone files bytes one other (inr a) (inl b) = absurd (let few = a.0 in let more = b.0 in omega (arith, more, few))
 bytes_alone files bytes one other (inr a) (inr b) = read_alone files (plan_read bytes) one other a.1 b.1
 
+-- what is nothing names no plan
+nothing_takes : (task : Task) → is_nothing task ≡ true → takes_plan task ≡ true → ⊥
+nothing_takes nothing none takes = false≢true takes
+nothing_takes running none takes = false≢true none
+nothing_takes (checking print) none takes = false≢true none
+nothing_takes (making seed count) none takes = false≢true none
+
 pub refused_alone : (call : Call) (one other : Status) → Refuses call one → Refuses call other → one ≡ other
 refused_alone call one other (inl a) (inl b) = a.1 ∙ sym b.1
-refused_alone call one other (inl a) (inr b) = absurd (false≢true (sym a.0 ∙ b.0))
-refused_alone call one other (inr a) (inl b) = absurd (false≢true (sym b.0 ∙ a.0))
+refused_alone call one other (inl a) (inr b) = absurd (nothing_takes call.task a.0 b.0)
+refused_alone call one other (inr a) (inl b) = absurd (nothing_takes call.task b.0 a.0)
 refused_alone call one other (inr a) (inr b) = bytes_alone (files_asked call) (plan_bytes call) one other a.1 b.1
 
 -- ---- refusals
@@ -401,14 +409,16 @@ asked_by call task is = ap (λ (t : Task). files_for t (length (file_names call)
 
 pub fit_never : (task : Task) (call : Call) (status : Status) → call.task ≡ task → IsFit task call → HasToldPlan call → Refuses call status → ⊥
 fit_never nothing call status is fit told refuses = absurd fit
-fit_never running call status is fit told (inl not) = false≢true (sym not.0 ∙ ap takes_plan is)
+fit_never running call status is fit told (inl none) = false≢true (sym (ap is_nothing is) ∙ none.0)
 fit_never running call status is fit told (inr refuses) =
     let p = fit.plan told in
     bytes_never (Some (length (file_names call))) (plan_bytes call) status p.1.0 p.0 p.1.1 p.1.2 p.1.3 (subst (λ (files : Option ℕ). RefusesBytes status files (plan_bytes call)) (asked_by call running is) refuses.1)
-fit_never (checking print) call status is fit told (inl not) = false≢true (sym not.0 ∙ ap takes_plan is)
+fit_never (checking print) call status is fit told (inl none) = false≢true (sym (ap is_nothing is) ∙ none.0)
 fit_never (checking print) call status is fit told (inr refuses) =
     let p = fit told in
     bytes_never None (plan_bytes call) status p.1.0 p.0 p.1.1 tt p.1.2 (subst (λ (files : Option ℕ). RefusesBytes status files (plan_bytes call)) (asked_by call (checking print) is) refuses.1)
+fit_never (making seed count) call status is fit told (inl none) = false≢true (sym (ap is_nothing is) ∙ none.0)
+fit_never (making seed count) call status is fit told (inr refuses) = false≢true (sym (ap takes_plan is) ∙ refuses.0)
 
 pub answers_built : (call : Call) (answer : Status) → IsBuilt call → AnswersRefusal answer call
 answers_built call answer built told status refuses = absurd (fit_never running call status built.form built told refuses)

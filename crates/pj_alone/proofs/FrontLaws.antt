@@ -32,9 +32,9 @@ use Rattle.pj_laws.proofs.Steps.{elements-append}
 use Rattle.pj_core_laws.proofs.PlainAnswers.{answers-are-plain}
 use Rattle.pj_run.specs.Runs.{history_of, outputs_of, plan_run, run_nodes}
 use Rattle.pj_report.specs.declared.writer.Form.{Form}
-use Rattle.pj_report.specs.declared.writer.Form.TheVariants.{AsTheyCome, Sorted}
+use Rattle.pj_report.specs.declared.writer.Form.TheVariants.{AsTheyCome, Sorted, Summed}
 use Rattle.pj_report.specs.Forms.{in_form}
-use Rattle.pj_report.proofs.Forms.{formed_rows}
+use Rattle.pj_report.proofs.Forms.{formed_at_most}
 use Rattle.pj_alone.specs.Top.{AllLawful, AreOfWidth, answer_after, arrived_in, gone_on, streams_after, ReachesSo, StaysRight}
 use Rattle.pj_run.proofs.Accepting.{count-streams, schema-is}
 use Rattle.pj_run.proofs.OutputLaws.{whole_run}
@@ -166,7 +166,7 @@ right_front job files first others front back p run among more lawful f =
     let sub = is-final (run_nodes job) p.well_made p.some job.trace front legal (map rows_of (streams_after job front more)) (go_on job front more lawful) f in
     let plain = ap (weigh f) (answers-are-plain (plan_run job) (map rows_of (streams_after job front more))).answer in
     let given = given_out job.trace (run_nodes job) front in
-    omega (arith, sub, plain, rows_front first others (in_form job.form given) among f, formed_rows job.form given f)
+    omega (arith, sub, plain, rows_front first others (in_form job.form given) among f, formed_at_most job.form given f)
 
 -- the form in which they are written
 module _ (job : Job) (files : List (List ℕ)) (first others : List Element) (p : IsPlanned job) where
@@ -204,6 +204,9 @@ module _ (job : Job) (files : List (List ℕ)) (first others : List Element) (p 
       let same = e ∙ ap (λ (form : Form). in_form form (outputs_of job files)) is in
       least_front is same (least job.trace (run_nodes job) [] (history_of job files) (length first) some (omega (arith, ap length same, length-append first others)))
   stays_in Sorted is e some = whole_front is e
+  stays_in Summed is e some =
+      let none = ap length (e ∙ ap (λ (form : Form). in_form form (outputs_of job files)) is) in
+      absurd (omega (arith, none, length-append first others, some))
 
 pub stays : (job : Job) (files : List (List ℕ)) (first others : List Element) → IsPlanned job → first ++ others ≡ in_form job.form (outputs_of job files) → (first ≡ []) ⊎ StaysRight job files first
 stays job files [] others p e = inl refl

@@ -1,7 +1,10 @@
+pub mod AllPromises
 pub mod CallLaws
 pub mod Completing
 pub mod EarlyLaws
+pub mod MadeLaws
 pub mod FrontLaws
+pub mod MemoryLaws
 pub mod NameLaws
 pub mod Refusing
 pub mod RunLaws

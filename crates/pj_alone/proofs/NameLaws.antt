@@ -1,6 +1,6 @@
 -- The names of a plan's nodes, and its streams by their numbers.
-use Rattle.std.proofs.Common.{◌≡◌, ◌≤◌, ℕ, zero, suc, Bool, true, false, cond, List, [], ◌∷◌, length, flat_map, get_or, refl, ap, ◌∙◌, inl, inr, arith}
-use Rattle.std.proofs.lemmas.Bool.{and_parts, and_from}
+use Rattle.std.proofs.Common.{◌≡◌, ◌≤◌, ℕ, suc, true, List, [], length, flat_map, get_or, refl, ap, ◌∙◌, inl, inr, arith}
+use Rattle.std.proofs.lemmas.Bool.{and_parts}
 use Rattle.pj_value.specs.Lists.{In}
 use Rattle.pj_value.proofs.Members.{In-append_left, In-flat_map_from, all_at, all_from}
 use Rattle.pj_plan.specs.declared.node.Node.{Node}
@@ -8,11 +8,11 @@ use Rattle.pj_plan.specs.declared.node.Node.TheVariants.{Stream, Select, Project
 use Rattle.pj_plan.specs.declared.node.PlanNode.{PlanNode}
 use Rattle.pj_plan.specs.declared.node.Outline.{Outline}
 use Rattle.pj_plan.specs.Names.{is_name, is_column_name, is_word, begins_small, is_spelled}
-use Rattle.pj_plan.specs.Nodes.{is_stream, streams_of, streams_in}
+use Rattle.pj_plan.specs.Nodes.{streams_of, streams_in}
 use Rattle.pj_plan.specs.Canonical.{declaration, node_name, node_statements, statements_of}
 use Rattle.pj_plan.specs.Kept.{IsMadeAgain}
 use Rattle.pj_plan.specs.Sound.{IsSoundPlan}
-use Rattle.pj_run.specs.PlanNames.{HasShortNames, are_short, is_short}
+use Rattle.pj_run.specs.PlanNames.{HasShortNames, is_short}
 use Rattle.pj_report.proofs.NodeNames.{past_names}
 use Rattle.pj_alone.specs.Endings.{stream_name}
 use Rattle.pj_feed.proofs.StreamNodes.{count_numbers, few-streams, name-at}
@@ -56,16 +56,3 @@ declared plan node made there =
 -- the names of a plan that is made again by its canonical statements
 pub plain_names : (plan : Outline) → IsMadeAgain plan → HasShortNames plan.nodes
 plain_names plan made = all_from (λ node. is_short node.name) plan.nodes (λ node there. plain_of plan.nodes node node.node (declared plan node made there))
-
-pub name_plain : (nodes : List PlanNode) (n : ℕ) → are_short nodes ≡ true → is_short (node_name nodes n) ≡ true
-name_plain [] n e = refl
-name_plain (node ∷ nodes) zero e = (and_parts (is_short node.name) (are_short nodes) e).0
-name_plain (node ∷ nodes) (suc n) e = name_plain nodes n (and_parts (is_short node.name) (are_short nodes) e).1
-
-pub streams_plain : (nodes : List PlanNode) → are_short nodes ≡ true → are_short (streams_in nodes) ≡ true
-streams_plain [] e = refl
-streams_plain (node ∷ nodes) e = let p = and_parts (is_short node.name) (are_short nodes) e in go (is_stream node.node) p.0 (streams_plain nodes p.1)
-  where
-    go : (b : Bool) → is_short node.name ≡ true → are_short (streams_in nodes) ≡ true → are_short (cond b (node ∷ streams_in nodes) (streams_in nodes)) ≡ true
-    go true one more = and_from (is_short node.name) (are_short (streams_in nodes)) one more
-    go false one more = more

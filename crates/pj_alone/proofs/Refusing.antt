@@ -1,5 +1,5 @@
 -- Why there is no plan to run, from the plan of the file up to the words.
-use Rattle.std.proofs.Common.{◌≡◌, ◌≤◌, inl, ℕ, Bool, List, [], ◌∷◌, length, Option, Some, Result, Ok, Err, IsTrue, refl, ap, sym, ◌∙◌, subst}
+use Rattle.std.proofs.Common.{◌≡◌, ◌≤◌, inl, ℕ, Bool, List, [], ◌∷◌, length, Option, Some, None, Result, Ok, Err, IsTrue, refl, ap, sym, ◌∙◌, subst}
 use Rattle.pj_io.specs.Folders.{SameElsewhere}
 use Rattle.pj_io.specs.States.{FolderState}
 use Rattle.pj_plan.specs.declared.fault.PlanFault.{PlanFault}
@@ -95,3 +95,31 @@ module _ (files : Option ℕ) (name bytes : List ℕ) (old new : FolderState) (i
 -- of other names nothing changes
 pub stay_but : (name : List ℕ) (old new : FolderState) → SameElsewhere name old.faults new.faults → SameElsewhere name old.last new.last → StayOutside (name ∷ []) old new
 stay_but name old new faults last = stay_elsewhere (name ∷ []) name old new (inl refl) faults last
+
+-- ---- a plan that was read, and is to be run
+
+module _ (files : ℕ) (name : List ℕ) (old new : FolderState) where
+  -- a file in which there is no plan at all has none for so many files
+  pub cause_of_run : (stop : PlanStop) → PlanCause stop None name old new → PlanCause stop (Some files) name old new
+  cause_of_run NoPlan c = c
+  cause_of_run (PlanFile NotOpened) c = c
+  cause_of_run (PlanFile NotRead) c = c
+  cause_of_run (PlanFile TooLong) c = c
+  cause_of_run (PlanFile FileMemory) c = tt
+  cause_of_run (Refused fault) c = c
+  cause_of_run (OtherCount want got) c = absurd c.2
+  cause_of_run (Stuck found) c = absurd c.0.2
+  cause_of_run PlanMemory c = tt
+
+  -- the plan that was read is not fit to be run
+  pub unfit_cause : (stop : PlanStop) (plan : Outline) → OpensFirst 1 (name ∷ []) old new → (IsTrue (old.told name) → SpellsPlan (old.contents name) plan) → PlanUnfit stop (Some files) plan → HasLines stop → PlanCause stop (Some files) name old new
+  unfit_cause NoPlan plan opened read u lines = absurd u
+  unfit_cause (PlanFile stop) plan opened read u lines = absurd u
+  unfit_cause (Refused fault) plan opened read u lines = absurd u
+  unfit_cause (OtherCount want got) plan opened read u lines = (opened, plan, u, λ told. let r = read told in (r.1, read_as (old.contents name) plan r.0))
+  unfit_cause (Stuck found) plan opened read u lines = ((opened, plan, u, λ told. let r = read told in (r.1, read_as (old.contents name) plan r.0)), lines)
+  unfit_cause PlanMemory plan opened read u lines = tt
+
+-- the bytes spell the plan of the core that was made of it
+pub spelled_core : (bytes : List ℕ) (plan : Outline) (core : CoreState) → SpellsPlan bytes plan → outline_in core ≡ plan → SpellsPlan bytes (outline_in core)
+spelled_core bytes plan core read same = subst (SpellsPlan bytes) (sym same) read

@@ -33,7 +33,7 @@ use Rattle.pj_alone.specs.Calls.{Call, job_of, stream_files}
 use Rattle.pj_run.specs.PlanNames.{HasShortNames, are_short}
 use Rattle.pj_report.specs.Report.{status_line}
 use Rattle.pj_report.specs.declared.writer.Form.{Form}
-use Rattle.pj_report.specs.declared.writer.Form.TheVariants.{AsTheyCome, Sorted}
+use Rattle.pj_report.specs.declared.writer.Form.TheVariants.{AsTheyCome, Sorted, Summed}
 use Rattle.pj_report.specs.Forms.{form_lines, in_form}
 use Rattle.pj_report.specs.Results.{out_lines}
 use Rattle.pj_events.specs.declared.events.Out.{Out}
@@ -52,10 +52,10 @@ use Rattle.pj_alone.proofs.FrontLaws.{stays}
 use Rattle.pj_report.proofs.Forms.{formed_lawful, sorted_elements}
 use Rattle.pj_report.proofs.Fronts.{IsNoteLine, AreNotes, AreLinesOf, elements_are, notes_are, lines-append, FrontSpells, front_spells, FirstLines, first_lines}
 use Rattle.pj_report.proofs.LinesWritten.{flat-append}
-use Rattle.pj_alone.proofs.NameLaws.{name_plain, streams_plain}
 use Rattle.pj_run.proofs.OutputLaws.{outputs_lawful}
 use Rattle.pj_run.proofs.Planned.{IsPlanned}
-use Rattle.pj_alone.proofs.RunLaws.{plan_refused_note, purge_note, file_count_note, no_feeds, name_no_feed, name_short, report_notes, same_after}
+use Rattle.pj_run.proofs.Notes.{name_no_feed, name_plain, no_feeds, purge_note, report_notes, streams_plain}
+use Rattle.pj_alone.proofs.RunLaws.{plan_refused_note, file_count_note, name_short, same_after}
 use Rattle.pj_pattern.proofs.Lawful.{lawful_front}
 
 -- the plan's bytes spell this plan, whose names are plain
@@ -87,6 +87,7 @@ form_lines_are : (form : Form) (nodes : List PlanNode) (outs : List Out) → Has
 form_lines_are AsTheyCome nodes outs plain = out_lines_are nodes outs plain
 form_lines_are Sorted nodes outs plain =
     subst (λ (ls : List (List ℕ)). AreLinesOf ls (in_form Sorted (elements_out outs))) (sorted_elements (elements_out outs)) (elements_are (in_form Sorted (elements_out outs)))
+form_lines_are Summed nodes outs plain = tt
 
 -- the outputs in the order in which the run writes them
 abbrev written_outputs : Job → List (List ℕ) → List Element

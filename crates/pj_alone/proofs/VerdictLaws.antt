@@ -1,5 +1,6 @@
 -- A plan that was checked: what was written, and what is so of the call.
-use Rattle.std.proofs.Common.{◌≡◌, ℕ, Bool, true, inl, inr, List, [], ◌++◌, take, Option, Some, None, Result, Ok, Err, OnOk, OnErr, IsTrue, refl, ap, sym, ◌∙◌, subst, append-nil}
+use Rattle.std.proofs.lemmas.Bool.{false≢true}
+use Rattle.std.proofs.Common.{◌≡◌, ℕ, Bool, true, inl, inr, List, [], ◌++◌, take, Option, Some, None, Result, Ok, Err, OnOk, OnErr, IsTrue, refl, ap, sym, ◌∙◌, subst, append-nil, false}
 use Rattle.std.specs.List.{concat}
 use Rattle.pj_io.specs.Causes.{Rose}
 use Rattle.pj_io.specs.States.{FolderState, SinkState}
@@ -10,10 +11,12 @@ use Rattle.pj_safety.specs.Safety.{IsSafePlan}
 use Rattle.pj_feed.specs.Opened.{AreReadToEnd, IsReadToEnd, OpensFirst, StayOutside}
 use Rattle.pj_report.specs.declared.status.Status.{Status}
 use Rattle.pj_report.specs.declared.status.Status.TheVariants.{Done, Usage, OpenFault, ReadFault, PlanRefused, FileCount, Unsafe, WriteFault, NoMemory, Limit}
-use Rattle.pj_report.specs.Written.{Delivered, FrontOf}
-use Rattle.pj_alone.specs.Calls.{checking, running, takes_plan, Call, HasToldPlan, files_asked, operand, plan_bytes}
+use Rattle.pj_report.specs.Written.{Delivered, FrontOf, HandedOn}
+use Rattle.pj_alone.specs.Calls.{checking, making, running, is_nothing, takes_plan, Call, HasReadPlan, HasToldPlan, files_asked, operand, plan_bytes}
 use Rattle.pj_alone.specs.Endings.{at_verdict, ending_of, ComesAt, VerdictLeaves}
-use Rattle.pj_alone.specs.Promises.{Ends}
+use Rattle.pj_alone.specs.Promises.{Ends, WritesResults}
+use Rattle.pj_alone.proofs.AllPromises.{KeepsAll}
+use Rattle.pj_alone.proofs.Completing.{completes_by}
 use Rattle.pj_alone.specs.declared.calls.Prepared.{Prepared}
 use Rattle.pj_alone.specs.declared.calls.Ready.{Ready}
 use Rattle.pj_alone.specs.declared.calls.Ready.TheVariants.{Run, Check}
@@ -76,30 +79,33 @@ no_verdict NoMemory print plan first after v never = never
 no_verdict (Limit what) print plan first after v never = v
 
 comes : (status : Status) (print : Bool) (plan : Outline) (first after : SinkState) → VerdictLeaves status print plan first after → ComesAt status at_verdict
-comes Done print plan first after v = inr refl
+comes Done print plan first after v = inr (inl refl)
 comes Usage print plan first after v = absurd v
 comes (PlanRefused line why) print plan first after v = absurd v
 comes (FileCount want got) print plan first after v = absurd v
 comes (Unsafe node risk) print plan first after v = inr refl
 comes (OpenFault n) print plan first after v = absurd v
 comes (ReadFault n) print plan first after v = absurd v
-comes WriteFault print plan first after v = inr refl
+comes WriteFault print plan first after v = inr (inl refl)
 comes NoMemory print plan first after v = tt
 comes (Limit what) print plan first after v = absurd v
 
 -- ---- the call
 
 module _ (call : Call) (print : Bool) (plan : Outline) (ready : IsCheckReady plan print call) (first after : SinkState) where
-  pub never_runs : call.task ≡ running → ⊥
+  never_runs : call.task ≡ running → ⊥
   never_runs runs = let e : checking print ≡ running = sym ready.task ∙ runs in cc
 
-  pub takes : takes_plan call.task ≡ true
+  takes : takes_plan call.task ≡ true
   takes = ap takes_plan ready.task
 
-  pub verdict_never : (status other : Status) → VerdictLeaves status print plan first after → status ≡ other → IsNoVerdict other → ⊥
+  is_something : is_nothing call.task ≡ false
+  is_something = ap is_nothing ready.task
+
+  verdict_never : (status other : Status) → VerdictLeaves status print plan first after → status ≡ other → IsNoVerdict other → ⊥
   verdict_never status other v is never = no_verdict other print plan first after (subst (λ (s : Status). VerdictLeaves s print plan first after) is v) never
 
-  pub ended_verdict : (status : Status) (new : FolderState) → VerdictLeaves status print plan first after → OpensFirst 1 call.names call.folder new → StayOutside (take 1 call.names) call.folder new → Ends (ending_of call status new first after)
+  ended_verdict : (status : Status) (new : FolderState) → VerdictLeaves status print plan first after → OpensFirst 1 call.names call.folder new → StayOutside (take 1 call.names) call.folder new → Ends (ending_of call status new first after)
   ended_verdict status new v opened stay = (
     at_verdict,
     record {
@@ -111,16 +117,16 @@ module _ (call : Call) (print : Bool) (plan : Outline) (ready : IsCheckReady pla
     },
   )
 
-  pub read_alone : (new : FolderState) → (HasToldPlan call → IsReadToEnd (operand call.names 1) call.folder new) → AreReadToEnd call.names call.folder new
-  read_alone new read = subst (λ (ns : List (List ℕ)). AreReadToEnd ns call.folder new) (sym ready.named) (read, tt)
+  read_alone : (new : FolderState) → (takes_plan call.task ≡ true → HasToldPlan call → IsReadToEnd (operand call.names 1) call.folder new) → AreReadToEnd call.names call.folder new
+  read_alone new read = subst (λ (ns : List (List ℕ)). AreReadToEnd ns call.folder new) (sym ready.named) (read takes, tt)
 
   safe_fits : IsSafePlan plan.nodes → IsFit call.task call
   safe_fits safe = subst (λ t. IsFit t call) (sym ready.task) (λ told. let read = ready.read told in (read.1, (plan, read.0, safe)))
 
-  pub done_fits : (status : Status) → VerdictLeaves status print plan first after → status ≡ Done → IsFit call.task call
+  done_fits : (status : Status) → VerdictLeaves status print plan first after → status ≡ Done → IsFit call.task call
   done_fits status v is = let w = subst (λ (s : Status). VerdictLeaves s print plan first after) is v in safe_fits w.0
 
-  pub write_fits : (status : Status) → VerdictLeaves status print plan first after → status ≡ WriteFault → WriteFails call first after
+  write_fits : (status : Status) → VerdictLeaves status print plan first after → status ≡ WriteFault → WriteFails call first after
   write_fits status v is = let w = subst (λ (s : Status). VerdictLeaves s print plan first after) is v in (w.1, safe_fits w.0)
 
   no_files : files_asked call ≡ None
@@ -137,14 +143,14 @@ module _ (call : Call) (print : Bool) (plan : Outline) (ready : IsCheckReady pla
         ),
   )
 
-  pub unsafe_found : (status : Status) (node : ℕ) (risk : PlanRisk) → VerdictLeaves status print plan first after → status ≡ Unsafe node risk → IsRefused call (Unsafe node risk)
+  unsafe_found : (status : Status) (node : ℕ) (risk : PlanRisk) → VerdictLeaves status print plan first after → status ≡ Unsafe node risk → IsRefused call (Unsafe node risk)
   unsafe_found status node risk v is = unsafe_refused node risk (subst (λ (s : Status). VerdictLeaves s print plan first after) is v)
 
   -- a safe plan is not refused
   safe_never : IsSafePlan plan.nodes → HasToldPlan call → (status : Status) → Refuses call status → ⊥
   safe_never safe told status refuses = fit_never (checking print) call status ready.task (λ t. let read = ready.read t in (read.1, (plan, read.0, safe))) told refuses
 
-  pub answers_verdict : (status : Status) → VerdictLeaves status print plan first after → AnswersRefusal status call
+  answers_verdict : (status : Status) → VerdictLeaves status print plan first after → AnswersRefusal status call
   answers_verdict Done v = λ told status refuses. absurd (safe_never v.0 told status refuses)
   answers_verdict Usage v = absurd v
   answers_verdict (PlanRefused line why) v = absurd v
@@ -157,7 +163,7 @@ module _ (call : Call) (print : Bool) (plan : Outline) (ready : IsCheckReady pla
   answers_verdict (Limit what) v = absurd v
 
   -- of the refusals a verdict is an unsafe plan alone
-  pub verdict_refused : (status other : Status) → VerdictLeaves status print plan first after → status ≡ other → IsOfPlan other → IsRefused call other
+  verdict_refused : (status other : Status) → VerdictLeaves status print plan first after → status ≡ other → IsOfPlan other → IsRefused call other
   verdict_refused status Done v is of = absurd of
   verdict_refused status Usage v is of = absurd of
   verdict_refused status (PlanRefused line why) v is of = absurd (verdict_never status (PlanRefused line why) v is tt)
@@ -170,3 +176,44 @@ module _ (call : Call) (print : Bool) (plan : Outline) (ready : IsCheckReady pla
   verdict_refused status (Limit Plan) v is of = absurd (verdict_never status (Limit Plan) v is tt)
   verdict_refused status (Limit (Node node)) v is of = absurd of
   verdict_refused status (Limit (File stream)) v is of = absurd of
+
+  -- all promises of a check
+  pub keeps_verdict : (status : Status) (new : FolderState) → VerdictLeaves status print plan first after → OpensFirst 1 call.names call.folder new → StayOutside (take 1 call.names) call.folder new → HasReadPlan call new
+      → HandedOn first after → (status ≡ Done → after.held ≡ []) → KeepsAll (ending_of call status new first after)
+  keeps_verdict status new v opened stay read handed all_handed =
+      let never : (other : Status) → status ≡ other → IsNoVerdict other → ⊥ = λ other is no. verdict_never status other v is no in
+      record {
+        answer = λ runs. absurd (never_runs runs);
+        punctuations = λ runs. absurd (never_runs runs);
+        lawful = λ runs. absurd (never_runs runs);
+        one_thread_bytes = λ runs. absurd (never_runs runs);
+        tallies = λ runs. absurd (never_runs runs);
+        made = λ seed count makes _. absurd (let e : checking print ≡ making seed count = sym ready.task ∙ makes in cc);
+        read_to_end = λ _. read_alone new read;
+        ending = ended_verdict status new v opened stay;
+        never_retracted = λ writes. absurd (subst WritesResults ready.task writes);
+        whole_lines = λ runs. absurd (never_runs runs);
+        handed_on = (handed, all_handed);
+        cause_of_done = λ is. done_fits status v is;
+        cause_of_usage = λ is. absurd (never Usage is tt);
+        usage = λ none. absurd (false≢true (sym is_something ∙ none));
+        cause_of_plan_limit = λ is. absurd (never (Limit Plan) is tt);
+        cause_of_plan_refused = λ line why is. absurd (never (PlanRefused line why) is tt);
+        cause_of_file_count = λ want got is. absurd (never (FileCount want got) is tt);
+        cause_of_unsafe = λ node risk is. unsafe_found status node risk v is;
+        refused = answers_verdict status v;
+        cause_of_open_fault = λ n is. absurd (never (OpenFault n) is tt);
+        cause_of_read_fault = λ n is. absurd (never (ReadFault n) is tt);
+        cause_of_write_fault = λ is. write_fits status v is;
+        cause_of_limit = λ node is. absurd (never (Limit (Node node)) is tt);
+        cause_of_file_limit = λ stream is. absurd (never (Limit (File stream)) is tt);
+        completes = completes_by status call new first after (record {
+          usage = λ is. absurd (never Usage is tt);
+          refused = λ other is of. verdict_refused status other v is of;
+          open_fault = λ n is. absurd (never (OpenFault n) is tt);
+          read_fault = λ n is. absurd (never (ReadFault n) is tt);
+          write_fault = λ is. write_fits status v is;
+          limit = λ node is. absurd (never (Limit (Node node)) is tt);
+          file_limit = λ stream is. absurd (never (Limit (File stream)) is tt);
+        });
+      }

@@ -1,10 +1,10 @@
 -- What is asked for, over a folder.
-use Rattle.std.specs.Prelude.{ℕ, Bool, true, false, List, [], ◌∷◌, length, Option, Some, None, IsTrue, slice_index_or}
+use Rattle.std.specs.Prelude.{◌≡◌, ℕ, Bool, true, false, List, [], ◌∷◌, length, Option, Some, None, IsTrue, slice_index_or}
 use Rattle.pj_io.specs.States.{FolderState}
 use Rattle.pj_plan.specs.declared.node.Outline.{Outline}
 use Rattle.pj_plan.specs.declared.node.PlanNode.{PlanNode}
 use Rattle.pj_report.specs.declared.writer.Form.{Form}
-use Rattle.pj_report.specs.declared.writer.Form.TheVariants.{AsTheyCome, Sorted}
+use Rattle.pj_report.specs.declared.writer.Form.TheVariants.{AsTheyCome, Sorted, Summed}
 use Rattle.pj_words.specs.declared.request.Request.{Request}
 use Rattle.pj_words.specs.declared.request.Request.TheVariants.{Run, Replay, Check, Make}
 use Rattle.pj_feed.specs.Named.{AreTold, files_named}
@@ -23,12 +23,22 @@ pub data Task : Type 0 where
   running : Task
   -- a check of a plan, which is also printed or not
   checking : Bool → Task
+  -- a run over an input that is made from this seed, of so many items
+  making : ℕ → ℕ → Task
 
--- it names a plan
+-- there is nothing such
+abbrev pub is_nothing : Task → Bool
+is_nothing nothing = true
+is_nothing running = false
+is_nothing (checking print) = false
+is_nothing (making seed count) = false
+
+-- it names the file of a plan
 abbrev pub takes_plan : Task → Bool
 takes_plan nothing = false
 takes_plan running = true
 takes_plan (checking print) = true
+takes_plan (making seed count) = false
 
 -- A call: what is asked for; the operands, which are the plan's name and those of the streams' files; how a run is to be made; and
 -- what the folder tells of itself before the call
@@ -58,18 +68,25 @@ no_options = record { trace = false; limit = 0; form = AsTheyCome; check = false
 abbrev pub check_wanted : List ℕ → Bool → Wanted
 check_wanted plan print = record { task = checking print; names = plan ∷ []; options = no_options }
 
+-- a made input is run without notes, its results are summed, and as many elements may come to a join or a group as ever
+abbrev pub make_options : Options
+make_options = record { trace = false; limit = 1099511627776; form = Summed; check = false }
+
+abbrev pub make_wanted : ℕ → ℕ → Wanted
+make_wanted seed count = record { task = making seed count; names = []; options = make_options }
+
 -- nothing that there is
 abbrev pub nothing_wanted : Wanted
 nothing_wanted = record { task = nothing; names = []; options = no_options }
 
--- other requests are not there yet
+-- replays are not there yet
 abbrev pub wanted : Option Request → Wanted
 wanted None = nothing_wanted
 wanted (Some (Run plan files workers sorted trace check limit)) =
     run_wanted plan files (record { trace = trace; limit = limit; form = form_by sorted; check = check })
 wanted (Some (Replay plan script files trace limit)) = nothing_wanted
 wanted (Some (Check plan print)) = check_wanted plan print
-wanted (Some (Make seed count)) = nothing_wanted
+wanted (Some (Make seed count)) = make_wanted seed count
 
 abbrev pub call_by : Wanted → FolderState → Call
 call_by want folder = record { task = want.task; names = want.names; options = want.options; folder = folder }
@@ -98,6 +115,7 @@ abbrev pub files_for : Task → ℕ → Option ℕ
 files_for nothing count = None
 files_for running count = Some count
 files_for (checking print) count = None
+files_for (making seed count) n = None
 
 abbrev pub files_asked : Call → Option ℕ
 files_asked call = files_for call.task (length (file_names call))
@@ -113,9 +131,9 @@ stream_files call = files_named (file_names call) call.folder
 abbrev pub HasToldPlan : Call → Type 0
 HasToldPlan call = IsTrue (call.folder.told (operand call.names 1))
 
--- the plan's file was read to its end, where it is told
+-- the plan's file was read to its end, if it names one and that is told
 abbrev pub HasReadPlan : Call → FolderState → Type 0
-HasReadPlan call after = HasToldPlan call → IsReadToEnd (operand call.names 1) call.folder after
+HasReadPlan call after = takes_plan call.task ≡ true → HasToldPlan call → IsReadToEnd (operand call.names 1) call.folder after
 
 -- plan and files are told
 pub record IsTold (call : Call) : Type 0 where

@@ -4,7 +4,7 @@ use Rattle.pj_io.specs.Causes.{Rose}
 use Rattle.pj_io.specs.States.{FolderState, SinkState}
 use Rattle.pj_report.specs.declared.status.Status.{Status}
 use Rattle.pj_report.specs.declared.status.Status.TheVariants.{Done, NoMemory}
-use Rattle.pj_alone.specs.Calls.{nothing, running, checking, Task, Call, job_of, IsTold, operand, stream_files}
+use Rattle.pj_alone.specs.Calls.{nothing, running, checking, making, Task, Call, job_of, IsTold, operand, stream_files}
 use Rattle.pj_run.specs.Jobs.{Job}
 use Rattle.pj_run.specs.Runs.{elements_to}
 use Rattle.pj_alone.specs.Top.{IsFit}
@@ -26,12 +26,13 @@ abbrev pub RoomFor : Task → Call → Type 0
 RoomFor nothing call = ⊤
 RoomFor running call = (job : Job) → job_of call ≡ Some job → IsWithinLimits job (stream_files call)
 RoomFor (checking print) call = ⊤
+RoomFor (making seed count) call = ⊤
 
 abbrev pub HasRoom : Call → Type 0
 HasRoom call = RoomFor call.task call
 
--- Where the call is told: a run of a safe plan of few enough bytes with a stream for each file, or the check of a safe one, counts of
--- faults that do not rise and limits that are not gone beyond give a call that is done, or want of memory
+-- Where the call is told: a run of a safe plan of few enough bytes with a stream for each file, the check of a safe one, or a made
+-- input, counts of faults that do not rise and limits that are not gone beyond give a call that is done, or want of memory
 abbrev pub Completes : Status → Call → FolderState → SinkState → SinkState → Type 0
 Completes answer call after old new =
     IsTold call → IsFit call.task call → NoneRose call after old new → HasRoom call → (answer ≡ Done) ⊎ (answer ≡ NoMemory)

@@ -19,11 +19,13 @@ use Rattle.pj_report.specs.declared.status.Status.TheVariants.{Done, Usage, Open
 use Rattle.pj_report.specs.declared.status.LimitOf.{LimitOf}
 use Rattle.pj_report.specs.declared.status.LimitOf.TheVariants.{Plan, Node, File}
 use Rattle.pj_report.specs.Report.{status_line}
-use Rattle.pj_report.specs.Written.{flat, WholeLines, FrontOf, Delivered, holding}
+use Rattle.pj_report.specs.Written.{flat, WholeLines, FrontOf, Delivered}
 use Rattle.pj_run.specs.Ends.{EndsBefore, EndsAtBytes, EndsAtLimit, EndsCut, ArrivedOf}
 use Rattle.pj_run.specs.Jobs.{Job}
 use Rattle.pj_run.specs.Runs.{run_lines}
-use Rattle.pj_alone.specs.Calls.{checking, running, Call, job_of, IsTold, HasToldPlan, operand, file_names, plan_bytes, stream_files}
+use Rattle.pj_run.specs.Whole.{WroteLines}
+use Rattle.pj_alone.specs.Calls.{checking, making, running, Call, job_of, IsTold, HasToldPlan, operand, file_names, plan_bytes, stream_files}
+use Rattle.pj_alone.specs.Made.{made_lines, Left, LinesLeft}
 use Rattle.pj_alone.specs.Plans.{SpellsPlan}
 use Rattle.pj_alone.specs.Top.{IsBuilt}
 
@@ -48,6 +50,8 @@ pub data Stage : Type 0 where
   at_plan : Stage
   -- to the verdict on the plan, which was to be checked
   at_verdict : Stage
+  -- to the run over a made input
+  at_made : Stage
   -- to the opening of the files: so many operands' were opened, and the next one's was not
   at_opening : ℕ → Stage
   -- to the run, all files being open
@@ -60,6 +64,7 @@ abbrev pub opened_at : Stage → Call → ℕ
 opened_at at_words call = 0
 opened_at at_plan call = 1
 opened_at at_verdict call = 1
+opened_at at_made call = 0
 opened_at (at_opening count) call = count
 opened_at in_run call = length call.names
 opened_at at_end call = length call.names
@@ -69,6 +74,7 @@ abbrev pub tried_at : Stage → Call → ℕ
 tried_at at_words call = 0
 tried_at at_plan call = 1
 tried_at at_verdict call = 1
+tried_at at_made call = 0
 tried_at (at_opening count) call = count + 1
 tried_at in_run call = length call.names
 tried_at at_end call = length call.names
@@ -78,6 +84,7 @@ abbrev pub IsPastPlan : Stage → Type 0
 IsPastPlan at_words = ⊥
 IsPastPlan at_plan = ⊥
 IsPastPlan at_verdict = ⊥
+IsPastPlan at_made = ⊥
 IsPastPlan (at_opening count) = 1 ≤ count
 IsPastPlan in_run = ⊤
 IsPastPlan at_end = ⊤
@@ -87,6 +94,7 @@ abbrev pub IsBeforeEnd : Stage → Type 0
 IsBeforeEnd at_words = ⊤
 IsBeforeEnd at_plan = ⊤
 IsBeforeEnd at_verdict = ⊤
+IsBeforeEnd at_made = ⊤
 IsBeforeEnd (at_opening count) = ⊤
 IsBeforeEnd in_run = ⊤
 IsBeforeEnd at_end = ⊥
@@ -99,14 +107,14 @@ LimitComesAt (File stream) stage = stage ≡ in_run
 
 -- how far a call comes that answers a status; memory may be wanting anywhere
 abbrev pub ComesAt : Status → Stage → Type 0
-ComesAt Done stage = (stage ≡ at_end) ⊎ (stage ≡ at_verdict)
+ComesAt Done stage = (stage ≡ at_end) ⊎ (stage ≡ at_verdict) ⊎ (stage ≡ at_made)
 ComesAt Usage stage = stage ≡ at_words
 ComesAt (PlanRefused line why) stage = stage ≡ at_plan
 ComesAt (FileCount want got) stage = stage ≡ at_plan
 ComesAt (Unsafe node risk) stage = (stage ≡ at_plan) ⊎ (stage ≡ at_verdict)
 ComesAt (OpenFault n) stage = (count : ℕ) × (count + 1 ≡ n) × (stage ≡ at_opening count)
 ComesAt (ReadFault n) stage = ((n ≡ 1) × (stage ≡ at_plan)) ⊎ ((1 < n) × (stage ≡ in_run))
-ComesAt WriteFault stage = (stage ≡ in_run) ⊎ (stage ≡ at_verdict)
+ComesAt WriteFault stage = (stage ≡ in_run) ⊎ (stage ≡ at_verdict) ⊎ (stage ≡ at_made)
 ComesAt NoMemory stage = IsBeforeEnd stage
 ComesAt (Limit what) stage = LimitComesAt what stage
 
@@ -136,10 +144,6 @@ stop_name nodes NoMemory = []
 stop_name nodes (Limit what) = limit_name nodes what
 
 -- ---- what is left in the sink
-
--- These bytes were written, in all, and then the status' line, or as much of it as was written before the output failed
-abbrev pub Left : List ℕ → List ℕ → SinkState → SinkState → Type 0
-Left bytes line old new = Delivered line (holding old bytes) new
 
 -- the lines of an unsafe plan that was to be run were written: of its first node at a risk, at this one
 abbrev pub TellsUnsafe : ℕ → PlanRisk → Call → SinkState → SinkState → Type 0
@@ -224,9 +228,18 @@ IsChecked e =
     (print : Bool) × (plan : Outline) × (e.call.task ≡ checking print) × (HasToldPlan e.call → SpellsPlan (plan_bytes e.call) plan)
     × VerdictLeaves e.status print plan e.old e.new
 
+-- the call was to make an input, no file was asked for, and this is left of the lines of its run
+abbrev pub HasMade : Ending → Type 0
+HasMade e = (seed : ℕ) × (count : ℕ) × (e.call.task ≡ making seed count) × (e.call.names ≡ []) × LinesLeft e.status (made_lines seed count) e.old e.new
+
 -- where the call and the sink are told: what the run of its job leaves that stopped
 abbrev pub RunLeaves : Ending → Type 0
 RunLeaves e = IsTold e.call → IsTrue e.new.told → (job : Job) × (job_of e.call ≡ Some job) × StopLeaves e.status job e.call e.after e.old e.new
+
+-- where the sink is told, whatever files are: whole lines were written and behind them the line of want of memory, or the sink's faults rose
+abbrev pub MemoryLeaves : SinkState → SinkState → Type 0
+MemoryLeaves old new =
+    IsTrue new.told → ((bytes : List ℕ) × WroteLines old.written bytes × (new.written ≡ bytes ++ status_line [] NoMemory)) ⊎ Rose old.faults new.faults
 
 -- where the call and the sink are told: of the name of the operand at this place, whose file could not be opened, none was closed, if
 -- no other operand has it
@@ -239,6 +252,7 @@ abbrev pub LeavesAt : Stage → Ending → Type 0
 LeavesAt at_words e = EarlyLeaves e.status e.call e.old e.new
 LeavesAt at_plan e = EarlyLeaves e.status e.call e.old e.new
 LeavesAt at_verdict e = IsChecked e
+LeavesAt at_made e = HasMade e
 LeavesAt (at_opening count) e = EarlyLeaves e.status e.call e.old e.new × KeepsLast count e
 LeavesAt in_run e = RunLeaves e
 LeavesAt at_end e = ⊤

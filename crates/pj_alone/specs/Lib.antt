@@ -1,6 +1,7 @@
 pub mod Calls
 pub mod Completeness
 pub mod Endings
+pub mod Made
 pub mod Plans
 pub mod Promises
 pub mod Ready

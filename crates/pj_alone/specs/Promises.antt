@@ -1,15 +1,16 @@
 -- What the top call promises: each clause is a sentence on how a call ended.
-use Rattle.std.specs.Prelude.{◌≡◌, ℕ, false, ⊤, []}
+use Rattle.std.specs.Prelude.{◌≡◌, ℕ, true, ⊤, []}
 use Rattle.pj_feed.specs.Opened.{AreReadToEnd}
 use Rattle.pj_plan.specs.declared.fault.PlanWhy.{PlanWhy}
-use Rattle.pj_report.specs.declared.status.Status.TheVariants.{Done, Usage, OpenFault, ReadFault, PlanRefused, FileCount, Unsafe, WriteFault, Limit}
+use Rattle.pj_report.specs.declared.status.Status.TheVariants.{Done, Usage, OpenFault, ReadFault, PlanRefused, FileCount, Unsafe, WriteFault, NoMemory, Limit}
 use Rattle.pj_report.specs.declared.status.LimitOf.TheVariants.{Plan, Node, File}
 use Rattle.pj_report.specs.Written.{HandedOn}
 use Rattle.pj_run.specs.Runs.{IsAnswer, ArePunctuations, AreLawful, AreTallies}
 use Rattle.pj_safety.specs.declared.risk.PlanRisk.{PlanRisk}
-use Rattle.pj_alone.specs.Calls.{nothing, running, checking, takes_plan, Task}
+use Rattle.pj_alone.specs.Calls.{nothing, running, checking, making, is_nothing, Task}
 use Rattle.pj_alone.specs.Completeness.{Completes}
-use Rattle.pj_alone.specs.Endings.{Ending, EndsAt, Stage}
+use Rattle.pj_alone.specs.Endings.{Ending, EndsAt, MemoryLeaves, Stage}
+use Rattle.pj_alone.specs.Made.{IsMade}
 use Rattle.pj_alone.specs.Refusals.{IsRefused}
 use Rattle.pj_alone.specs.Top.{AnswersRefusal, BeyondLimit, HasFault, IsFit, IsTooLarge, IsUnopened, NeverRetracted, OneThreadBytes, Ran, WriteFails}
 
@@ -35,6 +36,11 @@ WritesOneThread e = e.call.task ≡ running → e.status ≡ Done → OneThreadB
 abbrev pub Tallies : Ending → Type 0
 Tallies e = e.call.task ≡ running → e.status ≡ Done → Ran AreTallies e.call e.old e.new
 
+-- of a made input the summary was written, and the rows that it counts and sums are the answer, as the punctuations are the plan's;
+-- they are lawful, and its counts, peaks and total are right
+abbrev pub Makes : Ending → Type 0
+Makes e = (seed count : ℕ) → e.call.task ≡ making seed count → e.status ≡ Done → IsMade seed count e.old e.new
+
 -- all files were read to their ends
 abbrev pub ReadsToEnd : Ending → Type 0
 ReadsToEnd e = e.status ≡ Done → AreReadToEnd e.call.names e.call.folder e.after
@@ -45,15 +51,20 @@ ReadsToEnd e = e.status ≡ Done → AreReadToEnd e.call.names e.call.folder e.a
 abbrev pub Ends : Ending → Type 0
 Ends e = (stage : Stage) × EndsAt stage e
 
--- no check of a plan, which writes no results
-abbrev pub IsNoCheck : Task → Type 0
-IsNoCheck nothing = ⊤
-IsNoCheck running = ⊤
-IsNoCheck (checking print) = ⊥
+-- it writes no results but those of a run: neither the check of a plan nor a made input writes any
+abbrev pub WritesResults : Task → Type 0
+WritesResults nothing = ⊤
+WritesResults running = ⊤
+WritesResults (checking print) = ⊥
+WritesResults (making seed count) = ⊥
 
 -- what was written stays right, however the streams go on
 abbrev pub RetractsNothing : Ending → Type 0
-RetractsNothing e = IsNoCheck e.call.task → NeverRetracted e.call e.old e.new
+RetractsNothing e = WritesResults e.call.task → NeverRetracted e.call e.old e.new
+
+-- a run that ends for want of memory leaves whole lines, also where its files are not told
+abbrev pub LeavesLines : Ending → Type 0
+LeavesLines e = e.call.task ≡ running → e.status ≡ NoMemory → MemoryLeaves e.old e.new
 
 -- the sink holds nothing back, or its faults rose and the call is not done
 abbrev pub HandsOn : Ending → Type 0
@@ -65,11 +76,11 @@ abbrev pub IsRightlyDone : Ending → Type 0
 IsRightlyDone e = e.status ≡ Done → IsFit e.call.task e.call
 
 abbrev pub IsRightUsage : Ending → Type 0
-IsRightUsage e = e.status ≡ Usage → takes_plan e.call.task ≡ false
+IsRightUsage e = e.status ≡ Usage → is_nothing e.call.task ≡ true
 
--- what names no plan is answered so
+-- what is nothing that there is is answered so
 abbrev pub AnswersUsage : Ending → Type 0
-AnswersUsage e = takes_plan e.call.task ≡ false → e.status ≡ Usage
+AnswersUsage e = is_nothing e.call.task ≡ true → e.status ≡ Usage
 
 abbrev pub IsRightPlanLimit : Ending → Type 0
 IsRightPlanLimit e = e.status ≡ Limit Plan → IsRefused e.call (Limit Plan)

@@ -1,5 +1,5 @@
 -- What words, plan and number of files refuse, and why there is no plan to run.
-use Rattle.std.specs.Prelude.{ℕ, ◌^◌, ◌-◌, ◌<◌, ◌≤◌, ◌≡◌, ◌≢◌, ◌⊎◌, true, false, ⊤, min, List, [], ◌∷◌, Option, Some, None, Result, Ok, Err, IsTrue, length}
+use Rattle.std.specs.Prelude.{ℕ, ◌^◌, ◌-◌, ◌<◌, ◌≤◌, ◌≡◌, ◌≢◌, ◌⊎◌, true, ⊤, min, List, [], ◌∷◌, Option, Some, None, Result, Ok, Err, IsTrue, length}
 use Rattle.pj_io.specs.Folders.{RoseAt, SameEverywhere}
 use Rattle.pj_io.specs.States.{FolderState}
 use Rattle.pj_plan.specs.declared.fault.PlanFault.{PlanFault}
@@ -13,7 +13,7 @@ use Rattle.pj_alone.specs.declared.stops.FileStop.{FileStop}
 use Rattle.pj_alone.specs.declared.stops.FileStop.TheVariants.{OpenFault, ReadFault, TooLong, NoMemory as FileMemory}
 use Rattle.pj_alone.specs.declared.stops.PlanStop.{PlanStop}
 use Rattle.pj_alone.specs.declared.stops.PlanStop.TheVariants.{Usage as NoPlan, File, Refused, FileCount as OtherCount, Unsafe as Stuck, NoMemory as PlanMemory}
-use Rattle.pj_alone.specs.Calls.{running, takes_plan, Call, HasToldPlan, files_asked, file_names, operand, plan_bytes}
+use Rattle.pj_alone.specs.Calls.{is_nothing, running, takes_plan, Call, HasToldPlan, files_asked, file_names, operand, plan_bytes}
 use Rattle.pj_feed.specs.Opened.{OpensFirst}
 use Rattle.pj_safety.specs.Safety.{IsFirstRisk}
 use Rattle.pj_judge.specs.Judgments.{AreUnsafeLines, HasUnsafeLines}
@@ -58,7 +58,7 @@ RefusesBytes status files bytes =
 -- what words, plan and number of files are refused with, whichever is asked first
 abbrev pub Refuses : Call → Status → Type 0
 Refuses call status =
-    ((takes_plan call.task ≡ false) × (status ≡ Usage))
+    ((is_nothing call.task ≡ true) × (status ≡ Usage))
     ⊎ ((takes_plan call.task ≡ true) × RefusesBytes status (files_asked call) (plan_bytes call))
 
 -- what is asked for names a plan, and where that is told it is refused so
@@ -151,10 +151,10 @@ pub record HasPlan (call : Call) : Type 0 where
 abbrev pub CallUnfit : PlanStop → Call → FolderState → Type 0
 CallUnfit stop call after = HasPlan call × PlanCause stop (files_asked call) (operand call.names 1) call.folder after
 
--- why a call has no plan: what is asked for names none, and nothing was done; it names a file with no such plan; or memory was wanting,
+-- why a call has no plan: what is asked for is nothing that there is, and nothing was done; it names a file with no such plan; or memory was wanting,
 -- maybe before the file was opened
 abbrev pub Unprepared : PlanStop → Call → FolderState → Type 0
-Unprepared NoPlan call after = (takes_plan call.task ≡ false) × (after ≡ call.folder)
+Unprepared NoPlan call after = (is_nothing call.task ≡ true) × (after ≡ call.folder)
 Unprepared (File stop) call after = CallUnfit (File stop) call after
 Unprepared (Refused fault) call after = CallUnfit (Refused fault) call after
 Unprepared (OtherCount want got) call after = CallUnfit (OtherCount want got) call after

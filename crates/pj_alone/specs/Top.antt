@@ -18,12 +18,12 @@ use Rattle.pj_events.specs.Outcomes.{elements_out, outputs_of as handed_out, ele
 use Rattle.pj_events.specs.Join.{upto_from}
 use Rattle.pj_report.specs.declared.status.Status.{Status}
 use Rattle.pj_report.specs.declared.status.Status.TheVariants.{OpenFault, ReadFault, NoMemory}
-use Rattle.pj_alone.specs.Calls.{nothing, running, checking, Task, Call, job_of, IsTold, HasToldPlan, operand, file_names, plan_bytes, stream_files}
+use Rattle.pj_alone.specs.Calls.{nothing, running, checking, making, Task, Call, job_of, IsTold, HasToldPlan, operand, file_names, plan_bytes, stream_files}
 use Rattle.pj_feed.specs.Opened.{OpensFirst}
 use Rattle.pj_alone.specs.Plans.{plan_of}
 use Rattle.pj_alone.specs.Refusals.{Refuses}
 use Rattle.pj_report.specs.declared.writer.Form.{Form}
-use Rattle.pj_report.specs.declared.writer.Form.TheVariants.{AsTheyCome, Sorted}
+use Rattle.pj_report.specs.declared.writer.Form.TheVariants.{AsTheyCome, Sorted, Summed}
 use Rattle.pj_report.specs.Forms.{form_lines, in_form}
 use Rattle.pj_run.specs.Jobs.{Job}
 use Rattle.pj_run.specs.Runs.{outs_of, history_of, run_lines, run_nodes, GoesBeyond}
@@ -57,11 +57,13 @@ pub record IsBuilt (call : Call) : Type 0 where
 abbrev pub IsSafeText : List ℕ → Type 0
 IsSafeText bytes = (length bytes ≤ 1048576) × ((plan : Outline) × (plan_of bytes ≡ Some plan) × IsSafePlan plan.nodes)
 
--- nothing is refused of what is asked for: there is something to run; or the plan that is to be checked, where it is told, is safe
+-- nothing is refused of what is asked for: there is something to run; or the plan that is to be checked, where it is told, is safe; or
+-- an input is made
 abbrev pub IsFit : Task → Call → Type 0
 IsFit nothing call = ⊥
 IsFit running call = IsBuilt call
 IsFit (checking print) call = HasToldPlan call → IsSafeText (plan_bytes call)
+IsFit (making seed count) call = ⊤
 
 -- ---- what was written stays right
 
@@ -99,10 +101,11 @@ IsShortest job history count =
     (history ≡ []) ⊎ ((front : List Entry) × (last : Entry) × (history ≡ front ++ last ∷ []) × (length (elements_out (handed_out job.trace (run_nodes job) front)) < count))
 
 -- the front is no longer than it must be for so many outputs, where they are written as they come; it is the whole history, where
--- they are sorted
+-- they are sorted, or only summed
 abbrev pub ReachesSo : Form → Job → List Entry → List Entry → ℕ → Type 0
 ReachesSo AsTheyCome job front back count = IsShortest job front count
 ReachesSo Sorted job front back count = back ≡ []
+ReachesSo Summed job front back count = back ≡ []
 
 -- These outputs are first ones, in the order of their form, of what a front of the run on one thread hands out; and however the
 -- streams lawfully go on from there, their rows are among those of the answer, as bags

@@ -4,9 +4,10 @@ ghost use Rattle.pj_plan.specs.Nodes.{streams_in};
 ghost use Rattle.pj_words.specs.Request.{IsRequest};
 ghost use Rattle.pj_alone.specs.Calls.{call_for};
 ghost use Rattle.pj_alone.specs.Endings.{ending_of, stream_name as name_of_stream, stop_name as stop_name_of};
-ghost use Rattle.pj_alone.specs.Promises.{Answers, AnswersRefusals, AnswersUsage, Ends, HandsOn, IsCompleted, IsRightCount, IsRightFault, IsRightFileLimit, IsRightLimit, IsRightlyDone, IsRightlyUnsafe, IsRightOpenFault, IsRightPlanLimit, IsRightReadFault, IsRightUsage, IsRightWriteFault, Punctuates, ReadsToEnd, RetractsNothing, StaysLawful, Tallies, WritesOneThread};
+ghost use Rattle.pj_alone.specs.Promises.{Answers, AnswersRefusals, AnswersUsage, Ends, HandsOn, IsCompleted, IsRightCount, IsRightFault, IsRightFileLimit, IsRightLimit, IsRightlyDone, IsRightlyUnsafe, IsRightOpenFault, IsRightPlanLimit, IsRightReadFault, IsRightUsage, IsRightWriteFault, LeavesLines, Makes, Punctuates, ReadsToEnd, RetractsNothing, StaysLawful, Tallies, WritesOneThread};
 
 use crate::calls::{Prepared, Ready, files_in, prepare};
+use crate::made::write_made;
 use crate::refusal::write_refusal;
 use crate::verdict::write_verdict;
 use pj_io::{Folder, Sink};
@@ -24,7 +25,10 @@ use std::alloc::Global;
 /// stream for each file, is run.
 ///
 /// A check reads a plan, and writes what each input of each join reaches, behind the canonical plan with `print`: `Done` where the plan
-/// is safe, else `Unsafe`. Requests that are neither are answered with `Usage`.
+/// is safe, else `Unsafe`.
+///
+/// A make makes an auction of so many items from its seed, runs it in memory, and writes its report and the total of the highest bids:
+/// `Done`, unless a write failed or memory was wanting. A replay is answered with `Usage`.
 ///
 /// Sweeps keep each join finite: after each punctuation a run removes the stored rows whose need is covered, and the join hands
 /// up each punctuation, widened, as soon as no stored row of its input matches it.
@@ -42,11 +46,13 @@ pub fn run_alone<F: Folder, K: Sink>(
     ensures lawful { StaysLawful (ending_of (call_for request.now (F.state folder.old)) result (F.state folder.new) (K.state out.old) (K.state out.new)) }
     ensures one_thread_bytes { WritesOneThread (ending_of (call_for request.now (F.state folder.old)) result (F.state folder.new) (K.state out.old) (K.state out.new)) }
     ensures tallies { Tallies (ending_of (call_for request.now (F.state folder.old)) result (F.state folder.new) (K.state out.old) (K.state out.new)) }
+    ensures made { Makes (ending_of (call_for request.now (F.state folder.old)) result (F.state folder.new) (K.state out.old) (K.state out.new)) }
     ensures read_to_end { ReadsToEnd (ending_of (call_for request.now (F.state folder.old)) result (F.state folder.new) (K.state out.old) (K.state out.new)) }
 
     // How far the call came, and what it left.
     ensures ending { Ends (ending_of (call_for request.now (F.state folder.old)) result (F.state folder.new) (K.state out.old) (K.state out.new)) }
     ensures never_retracted { RetractsNothing (ending_of (call_for request.now (F.state folder.old)) result (F.state folder.new) (K.state out.old) (K.state out.new)) }
+    ensures whole_lines { LeavesLines (ending_of (call_for request.now (F.state folder.old)) result (F.state folder.new) (K.state out.old) (K.state out.new)) }
     ensures handed_on { HandsOn (ending_of (call_for request.now (F.state folder.old)) result (F.state folder.new) (K.state out.old) (K.state out.new)) }
 
     // When each status comes.
@@ -79,6 +85,7 @@ pub fn run_alone<F: Folder, K: Sink>(
             }
         }
         Ok(Ready::Check { plan, print }) => write_verdict(alloc, &plan, print, out),
+        Ok(Ready::Make { seed, count }) => write_made(alloc, seed, count, out),
         Err(stop) => {
             write_refusal(&stop, out);
             stop.status()

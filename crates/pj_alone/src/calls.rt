@@ -1,12 +1,12 @@
-// What a request asks for: a plan, and for a run a file for each of its streams.
-ghost use Rattle.std.specs.Prelude.{ℕ, ◌≡◌, ◌≤◌, ◌^◌, ◌∷◌, [], false, Option, Some, None, Ok, Err, IsTrue, IfOk, IfErr, OnOk, length, take};
+// What a request asks for: a plan, and for a run a file for each of its streams; or an input that is made.
+ghost use Rattle.std.specs.Prelude.{ℕ, ◌≡◌, ◌≤◌, ◌^◌, ◌∷◌, [], true, Option, Some, None, Ok, Err, IsTrue, IfOk, IfErr, OnOk, length, take};
 ghost use Rattle.pj_io.specs.States.{FolderState};
 ghost use Rattle.pj_io.specs.Folders.{NoneFalls, SameElsewhere};
 ghost use Rattle.pj_plan.specs.Nodes.{streams_of};
 ghost use Rattle.pj_plan_text.specs.PlanRead.{plan_read};
 ghost use Rattle.pj_safety.specs.Certificates.{AreCertificates, certificates_of};
 ghost use Rattle.pj_safety.specs.Safety.{IsSafePlan};
-ghost use Rattle.pj_alone.specs.Calls.{takes_plan, call_for, file_names, form_by, operand, plan_bytes, HasReadPlan, HasToldPlan};
+ghost use Rattle.pj_alone.specs.Calls.{is_nothing, call_for, file_names, form_by, operand, plan_bytes, HasReadPlan, HasToldPlan};
 ghost use Rattle.pj_feed.specs.Opened.{OpensFirst, OpensAtMost, IsReadToEnd, StayOutside};
 ghost use Rattle.pj_alone.specs.Plans.{outline_in, plan_of, IsAsked, SpellsPlan};
 ghost use Rattle.pj_alone.specs.Ready.{IsReadyFor};
@@ -55,10 +55,12 @@ pub enum Ready {
     Run { ready: Prepared },
     /// The check of a plan, which is to be printed or not.
     Check { plan: Plan, print: bool },
+    /// A run over an input that is made from this seed, of so many items.
+    Make { seed: u32, count: u32 },
 }
 
 /// What is to be done of the request: a core of the plan that it names, if it asks for a run, and the plan is safe and has a stream
-/// for each file; or the plan itself, if it is to be checked.
+/// for each file; the plan itself, if it is to be checked; or what input is to be made.
 pub fn prepare<F: Folder>(
     alloc: Global,
     request: &Request,
@@ -75,7 +77,7 @@ pub fn prepare<F: Folder>(
     ensures was_opened { OnOk result (OpensFirst 1 (call_for request.now (F.state folder.old)).names (F.state folder.old) (F.state folder.new)) }
     ensures others { StayOutside (take 1 (call_for request.now (F.state folder.old)).names) (F.state folder.old) (F.state folder.new) }
     ensures cause { IfErr result (λ stop. Unprepared stop (call_for request.now (F.state folder.old)) (F.state folder.new)) }
-    ensures usage { takes_plan (call_for request.now (F.state folder.old)).task ≡ false → result ≡ Err PlanStop.Usage }
+    ensures usage { is_nothing (call_for request.now (F.state folder.old)).task ≡ true → result ≡ Err PlanStop.Usage }
 {
     match request {
         Request::Run {
@@ -104,7 +106,10 @@ pub fn prepare<F: Folder>(
                 print: *print,
             })
         }
-        Request::Make { .. } => Err(PlanStop::Usage),
+        Request::Make { seed, count } => Ok(Ready::Make {
+            seed: *seed,
+            count: *count,
+        }),
     }
 }
 
@@ -121,6 +126,7 @@ pub fn files_in(request: &Request) -> &[Bytes]
 }
 
 // A core of the plan of this name, if it has so many streams, and what its run is to write.
+#[tactic(auto, using(crate::proofs::Refusing::cause_of_run, crate::proofs::Refusing::unfit_cause, crate::proofs::Refusing::spelled_core))]
 fn prepare_run<F: Folder>(
     alloc: Global,
     name: &[u8],
@@ -144,7 +150,45 @@ fn prepare_run<F: Folder>(
     ensures others { StayOutside (name.now ∷ []) (F.state folder.old) (F.state folder.new) }
     ensures cause { IfErr result (λ stop. PlanCause stop (Some files) name.now (F.state folder.old) (F.state folder.new)) }
 {
-    let core = read_plan_for(alloc, name, files, options, folder)?;
+    let plan = read_plan_of(alloc, name, folder)?;
+    Ok(ready_for(alloc, plan, files, options)?)
+}
+
+// A core of the plan that the bytes spell, if it has so many streams, and what its run is to write.
+#[tactic(auto, using(crate::proofs::Refusing::unfit_bytes, crate::proofs::Refusing::spelled))]
+pub(crate) fn spelled_ready(
+    alloc: Global,
+    bytes: &[u8],
+    files: usize,
+    options: Options,
+) -> Result<Prepared, PlanStop>
+    requires limit { (1 ≤ options.limit) × (options.limit ≤ 2 ^ 40) }
+    ensures fresh { IfOk result (λ ready. IsNewCore ready.core) }
+    ensures asked { IfOk result (IsAsked options) }
+    ensures read { IfOk result (λ ready. plan_of bytes.now ≡ Some (outline_in ready.core)) }
+    ensures cause { IfErr result (λ stop. BytesRefused stop (Some files) bytes.now) }
+{
+    let plan = plan_in(alloc, bytes)?;
+    Ok(ready_for(alloc, plan, files, options)?)
+}
+
+// A core of the plan, if that has so many streams and is safe, and what its run is to write.
+fn ready_for(
+    alloc: Global,
+    plan: Plan,
+    files: usize,
+    options: Options,
+) -> Result<Prepared, PlanStop>
+    requires limit { (1 ≤ options.limit) × (options.limit ≤ 2 ^ 40) }
+    ensures fresh { IfOk result (λ ready. IsNewCore ready.core) }
+    ensures safe { OnOk result (IsSafePlan plan.nodes) }
+    ensures count { OnOk result (files ≡ length (streams_of plan.nodes)) }
+    ensures same { IfOk result (λ ready. outline_in ready.core ≡ plan) }
+    ensures asked { IfOk result (IsAsked options) }
+    ensures cause { IfErr result (λ stop. PlanUnfit stop (Some files) plan) }
+    ensures lines { IfErr result HasLines }
+{
+    let core = core_for(alloc, plan, files, options)?;
     let writing = Writing {
         form: options.form,
         check: options.check,
@@ -191,53 +235,6 @@ fn plan_in(alloc: Global, bytes: &[u8]) -> Result<Plan, PlanStop>
         Err(ReadStop::Fault(fault)) => Err(PlanStop::Refused { fault }),
         Err(ReadStop::NoMemory) => Err(PlanStop::NoMemory),
     }
-}
-
-// A core of the plan of this name, if it has so many streams.
-#[tactic(auto, using(crate::proofs::Refusing::file_cause, crate::proofs::Refusing::bytes_cause, crate::proofs::Refusing::stay_but))]
-fn read_plan_for<F: Folder>(
-    alloc: Global,
-    name: &[u8],
-    files: usize,
-    options: Options,
-    folder: &mut F,
-) -> Result<Core, PlanStop>
-    requires limit { (1 ≤ options.limit) × (options.limit ≤ 2 ^ 40) }
-    ensures fresh { IfOk result (λ core. IsNewCore core) }
-    ensures safe { IfOk result (λ core. IsSafePlan core.plan.nodes) }
-    ensures count { IfOk result (λ core. files ≡ length (streams_of core.plan.nodes)) }
-    ensures trace { IfOk result (λ core. core.plan.trace ≡ options.trace) }
-    ensures limit { IfOk result (λ core. core.limit ≡ options.limit) }
-    ensures told { (F.state folder.new).told ≡ (F.state folder.old).told }
-    ensures contents { (F.state folder.new).contents ≡ (F.state folder.old).contents }
-    ensures read { IsTrue ((F.state folder.old).told name.now) → IfOk result (λ core. SpellsPlan ((F.state folder.old).contents name.now) (outline_in core)) }
-    ensures last { IsTrue ((F.state folder.old).told name.now) → OnOk result (IsReadToEnd name.now (F.state folder.old) (F.state folder.new)) }
-    ensures other_last { SameElsewhere name.now (F.state folder.old).last (F.state folder.new).last }
-    ensures later { NoneFalls (F.state folder.old).faults (F.state folder.new).faults }
-    ensures some_opened { OpensAtMost 1 (name.now ∷ []) (F.state folder.old) (F.state folder.new) }
-    ensures was_opened { OnOk result (OpensFirst 1 (name.now ∷ []) (F.state folder.old) (F.state folder.new)) }
-    ensures others { StayOutside (name.now ∷ []) (F.state folder.old) (F.state folder.new) }
-    ensures cause { IfErr result (λ stop. PlanCause stop (Some files) name.now (F.state folder.old) (F.state folder.new)) }
-{
-    let bytes = read_file(alloc, folder, name)?;
-    Ok(core_in(alloc, bytes.as_slice(), files, options)?)
-}
-
-// A core of the plan that the bytes spell, if it has so many streams.
-#[tactic(auto, using(crate::proofs::Refusing::unfit_bytes, crate::proofs::Refusing::spelled))]
-fn core_in(alloc: Global, bytes: &[u8], files: usize, options: Options) -> Result<Core, PlanStop>
-    requires limit { (1 ≤ options.limit) × (options.limit ≤ 2 ^ 40) }
-    ensures fresh { IfOk result (λ core. IsNewCore core) }
-    ensures safe { IfOk result (λ core. IsSafePlan core.plan.nodes) }
-    ensures count { IfOk result (λ core. files ≡ length (streams_of core.plan.nodes)) }
-    ensures trace { IfOk result (λ core. core.plan.trace ≡ options.trace) }
-    ensures limit { IfOk result (λ core. core.limit ≡ options.limit) }
-    ensures read { IfOk result (λ core. plan_of bytes.now ≡ Some (outline_in core)) }
-    ensures cause { IfErr result (λ stop. BytesRefused stop (Some files) bytes.now) }
-    ensures lines { IfErr result HasLines }
-{
-    let plan = plan_in(alloc, bytes)?;
-    Ok(core_for(alloc, plan, files, options)?)
 }
 
 // A core of the plan, if that has so many streams and is safe.

@@ -1,8 +1,10 @@
-//! The call of a request on one thread: runs a plan over its files, or checks it. It waits for no other thread.
+//! The call of a request on one thread: runs a plan over its files, checks it, or makes an input and runs that. It waits for no
+//! other thread.
 #![tactic(auto)]
 
 mod alone;
 mod calls;
+mod made;
 mod plan_file;
 mod refusal;
 mod status;

@@ -1,7 +1,7 @@
 // The top call.
 ghost use Rattle.std.specs.Prelude.{◌≡◌, None};
 ghost use Rattle.pj_alone.specs.Endings.{ending_of};
-ghost use Rattle.pj_alone.specs.Promises.{Answers, AnswersRefusals, Ends, HandsOn, IsCompleted, IsRightCount, IsRightFault, IsRightFileLimit, IsRightLimit, IsRightlyDone, IsRightlyUnsafe, IsRightOpenFault, IsRightPlanLimit, IsRightReadFault, IsRightUsage, IsRightWriteFault, Punctuates, ReadsToEnd, RetractsNothing, StaysLawful, Tallies, WritesOneThread};
+ghost use Rattle.pj_alone.specs.Promises.{Answers, AnswersRefusals, Ends, HandsOn, IsCompleted, IsRightCount, IsRightFault, IsRightFileLimit, IsRightLimit, IsRightlyDone, IsRightlyUnsafe, IsRightOpenFault, IsRightPlanLimit, IsRightReadFault, IsRightUsage, IsRightWriteFault, LeavesLines, Makes, Punctuates, ReadsToEnd, RetractsNothing, StaysLawful, Tallies, WritesOneThread};
 ghost use Rattle.pj_engine.specs.Words.{asked_in, call_of, AsksSomething};
 
 use pj_alone::run_alone;
@@ -23,11 +23,13 @@ pub fn run_words<R: AllocGlobal, F: Folder, K: Sink>(
     ensures lawful { StaysLawful (ending_of (call_of words.now (F.state folder.old)) result (F.state folder.new) (K.state out.old) (K.state out.new)) }
     ensures one_thread_bytes { WritesOneThread (ending_of (call_of words.now (F.state folder.old)) result (F.state folder.new) (K.state out.old) (K.state out.new)) }
     ensures tallies { Tallies (ending_of (call_of words.now (F.state folder.old)) result (F.state folder.new) (K.state out.old) (K.state out.new)) }
+    ensures made { Makes (ending_of (call_of words.now (F.state folder.old)) result (F.state folder.new) (K.state out.old) (K.state out.new)) }
     ensures read_to_end { ReadsToEnd (ending_of (call_of words.now (F.state folder.old)) result (F.state folder.new) (K.state out.old) (K.state out.new)) }
 
     // How far the call came, and what it left.
     ensures ending { Ends (ending_of (call_of words.now (F.state folder.old)) result (F.state folder.new) (K.state out.old) (K.state out.new)) }
     ensures never_retracted { RetractsNothing (ending_of (call_of words.now (F.state folder.old)) result (F.state folder.new) (K.state out.old) (K.state out.new)) }
+    ensures whole_lines { LeavesLines (ending_of (call_of words.now (F.state folder.old)) result (F.state folder.new) (K.state out.old) (K.state out.new)) }
     ensures handed_on { HandsOn (ending_of (call_of words.now (F.state folder.old)) result (F.state folder.new) (K.state out.old) (K.state out.new)) }
 
     // When each status comes.

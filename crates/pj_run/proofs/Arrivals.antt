@@ -20,14 +20,14 @@ none-at : (s join : ℕ) (us : List ℕ) → elements_of s (probes_at join us) �
 none-at s join [] = refl
 none-at s join (u ∷ us) = none-at s join us
 
-none-from : (s n join : ℕ) (nodes : List Node) → elements_of s (probes_from nodes join n) ≡ []
+pub none-from : (s n join : ℕ) (nodes : List Node) → elements_of s (probes_from nodes join n) ≡ []
 none-from s zero join nodes = refl
 none-from s (suc n) join nodes =
     let here : List Entry = probes_at join (pending_at nodes join) in
     elements-append s here (probes_from (nodes_from nodes here) (join + 1) n)
     ∙ ap₂ (λ (xs ys : List Element). xs ++ ys) (none-at s join (pending_at nodes join)) (none-from s n (join + 1) (nodes_from nodes here))
 
-none-swept : (s : ℕ) (nodes : List Node) (places : List Place) → elements_of s (sweeps_at nodes places) ≡ []
+pub none-swept : (s : ℕ) (nodes : List Node) (places : List Place) → elements_of s (sweeps_at nodes places) ≡ []
 none-swept s nodes [] = refl
 none-swept s nodes (place ∷ places) =
     let here : List Entry = plain (Swept place.join place.input) ∷ [] in

@@ -72,13 +72,13 @@ one_more lists stream (Tuple row) s there =
       | inr other ↦ rw other.0 (get_or-set_other lists stream s rows [] (λ e. other.1 (sym e)) ∙ sym (append-nil (get_or lists s [])))
     ]
 
-arrival_more : (next : Arrival) (streams : List PlanNode) (lists : List (List (List Value))) (s : ℕ) → IsThere next lists
+pub arrival_more : (next : Arrival) (streams : List PlanNode) (lists : List (List (List Value))) (s : ℕ) → IsThere next lists
     → get_or (with_arrival next lists) s [] ≡ get_or lists s [] ++ rows_of (brought_by s (turn_in streams next))
 arrival_more (Brought stream element) streams lists s there = one_more lists stream element s there
 arrival_more (Closing stream) streams lists s there = no_row (eqb stream s) (Punct (all_wild (length (stream_columns streams stream)))) refl (get_or lists s [])
 
 -- there is a list for the stream of a turn
-there_of : (next : Arrival) (streams : List PlanNode) (lists : List (List (List Value))) → IsTurnOf streams (turn_in streams next) → length lists ≡ length streams → IsThere next lists
+pub there_of : (next : Arrival) (streams : List PlanNode) (lists : List (List (List Value))) → IsTurnOf streams (turn_in streams next) → length lists ≡ length streams → IsThere next lists
 there_of (Brought stream element) streams lists of many = let lt = of.0 in omega (arith, lt, many)
 there_of (Closing stream) streams lists of many = tt
 

@@ -7,10 +7,12 @@ pub mod FeedTurns
 pub mod FilesRun
 pub mod JoinNodes
 pub mod Keeping
+pub mod Notes
 pub mod OutputLaws
 pub mod Planned
 pub mod RunClosing
 pub mod Running
 pub mod Tallies
 pub mod TurnLaws
+pub mod WholeLaws
 pub mod StreamNodes

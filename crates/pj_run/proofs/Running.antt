@@ -64,7 +64,7 @@ use Rattle.pj_run.proofs.Arrivals.{elements-turns, brought-left, arrived-is}
 
 -- ---- all turns
 
-abbrev turn_lists : Job → List (List ℕ) → List (List Turn)
+abbrev pub turn_lists : Job → List (List ℕ) → List (List Turn)
 turn_lists job files = all_turns (run_nodes job) 0 (streams_of (run_nodes job)) (accepted_of (streams_in job.nodes) files)
 
 count-lists : (job : Job) (files : List (List ℕ)) → length (turn_lists job files) ≡ length (streams_in job.nodes)
@@ -77,7 +77,7 @@ list-at job files k lt =
     ∙ sym (all-at (run_nodes job) 0 k 0 (streams_of (run_nodes job)) (accepted_of (streams_in job.nodes) files) (omega (arith, lt, count-streams job))))
 
 -- the turns that are left in the feeds at first are those of the history
-feeds-lists : (job : Job) (feeds : List FeedState) → AreFeeds 0 (streams_in job.nodes) feeds → AreNew feeds → map (feed_left (streams_in job.nodes)) feeds ≡ turn_lists job (files_of feeds)
+pub feeds-lists : (job : Job) (feeds : List FeedState) → AreFeeds 0 (streams_in job.nodes) feeds → AreNew feeds → map (feed_left (streams_in job.nodes)) feeds ≡ turn_lists job (files_of feeds)
 feeds-lists job feeds f new =
     same_lists (map (feed_left (streams_in job.nodes)) feeds) (turn_lists job (files_of feeds))
     (length-map feeds (feed_left (streams_in job.nodes)) ∙ (feeds_long 0 (streams_in job.nodes) feeds f ∙ sym (count-lists job (files_of feeds))))
@@ -124,7 +124,7 @@ begins job feeds at core results f new first fresh none = record {
 }
 
 -- where the limit is reached
-reached : (limit : ℕ) (nodes : List Node) (whole done front back rest : List Entry) (node : ℕ) → whole ≡ done ++ ((front ++ back) ++ rest) → StaysWithin limit nodes [] done → StaysWithin limit nodes done front
+pub reached : (limit : ℕ) (nodes : List Node) (whole done front back rest : List Entry) (node : ℕ) → whole ≡ done ++ ((front ++ back) ++ rest) → StaysWithin limit nodes [] done → StaysWithin limit nodes done front
     → BeginsBeyond limit nodes (done ++ front) back node → (r : ReachesLimit limit nodes whole node) × (r.front ≡ done ++ front)
 reached limit nodes whole done front [] rest node e d w b = absurd b
 reached limit nodes whole done front (entry ∷ back) rest node e d w b = (

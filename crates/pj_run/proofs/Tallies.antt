@@ -14,8 +14,8 @@ use Rattle.pj_core.specs.Plans.{RunPlan}
 use Rattle.pj_feed.specs.Feeds.{tallies_of}
 use Rattle.pj_run.specs.Outcome.{tally_lines, report_lines, Finishes, IsOutcome, WritesOf}
 use Rattle.pj_report.specs.Report.{stream_lines, results_line, results_text}
-use Rattle.pj_run.specs.Runs.{accepted_rows, check_in, streams_report, peaks_in, report_of, run_lines, history_of, outs_of, outputs_of, plan_run}
-use Rattle.pj_report.specs.Forms.{shown, taken_so_far, withheld}
+use Rattle.pj_run.specs.Runs.{accepted_rows, check_in, streams_report, form_report, report_of, run_lines, history_of, outs_of, outputs_of, plan_run}
+use Rattle.pj_report.specs.Forms.{shown, taken_so_far, total_in, withheld}
 use Rattle.pj_report.specs.Written.{WritesBy, write_cut}
 use Rattle.pj_report.specs.declared.stops.WriteStop.{WriteStop}
 use Rattle.pj_report.specs.declared.writer.Form.{Form}
@@ -71,11 +71,11 @@ pub report_is : (job : Job) (files : List (List ℕ)) (tallies : List Tally) (ga
 report_is job files tallies gathered o =
     let plan : RunPlan = plan_run job in
     let history : List Entry = history_of job files in
-    ap (λ (ls : List (List ℕ)). ls ++ results_text gathered.results.counts.rows gathered.results.counts.puncts ∷ [] ++ peaks_in gathered.results.form plan history
+    ap (λ (ls : List (List ℕ)). ls ++ results_text gathered.results.counts.rows gathered.results.counts.puncts ∷ [] ++ form_report gathered.results.form gathered.results.total plan history
     ++ check_in gathered.accepted.asked job.nodes gathered.accepted.lists.items) (ap (tally_lines (streams_in job.nodes)) o.each ∙ streams-lines (streams_in job.nodes) files)
-    ∙ (ap (λ (w : ResultWriter). streams_report (streams_in job.nodes) files ++ results_text w.counts.rows w.counts.puncts ∷ [] ++ peaks_in w.form plan history
+    ∙ (ap (λ (w : ResultWriter). streams_report (streams_in job.nodes) files ++ results_text w.counts.rows w.counts.puncts ∷ [] ++ form_report w.form w.total plan history
     ++ check_in gathered.accepted.asked job.nodes gathered.accepted.lists.items) o.results
-    ∙ ap (λ (ls : List (List ℕ)). streams_report (streams_in job.nodes) files ++ results_line (outputs_of job files) ∷ [] ++ peaks_in job.form plan history ++ ls)
+    ∙ ap (λ (ls : List (List ℕ)). streams_report (streams_in job.nodes) files ++ results_line (outputs_of job files) ∷ [] ++ form_report job.form (total_in job.form (outputs_of job files)) plan history ++ ls)
     (checked gathered.accepted.asked job.check job.nodes gathered.accepted.lists.items (accepted_rows job files) o.asked o.rows))
 
 -- in whatever form the writer has taken these outputs

@@ -7,5 +7,6 @@ pub mod PlanNames
 pub mod RunEnds
 pub mod Runs
 pub mod Turning
+pub mod Whole
 pub mod Cuts
 pub mod Stops

@@ -1,5 +1,5 @@
 -- What a run that was made to its end leaves for its report.
-use Rattle.std.specs.Prelude.{◌≡◌, ℕ, true, List, [], ◌∷◌, ◌++◌, Result, IsTrue}
+use Rattle.std.specs.Prelude.{◌≡◌, ℕ, ℤ, true, List, [], ◌∷◌, ◌++◌, Result, IsTrue}
 use Rattle.pj_run.specs.Jobs.{Job}
 use Rattle.pj_plan.specs.declared.node.PlanNode.{PlanNode}
 use Rattle.pj_value.specs.declared.values.Value.{Value}
@@ -16,9 +16,10 @@ use Rattle.pj_run.specs.declared.checking.AcceptedRows.{AcceptedRows}
 use Rattle.pj_run.specs.declared.run.Gathered.{Gathered}
 use Rattle.pj_feed.specs.Feeds.{tallies_of}
 use Rattle.pj_report.specs.declared.writer.Form.{Form}
+use Rattle.pj_report.specs.declared.writer.Form.TheVariants.{Summed}
 use Rattle.pj_report.specs.Forms.{taken_so_far, withheld}
 use Rattle.pj_report.specs.Report.{stream_lines, results_text}
-use Rattle.pj_run.specs.Runs.{accepted_rows, check_in, outputs_of, peaks_in, peaks_report}
+use Rattle.pj_run.specs.Runs.{accepted_rows, check_in, outputs_of, form_report, peaks_report}
 
 -- the rows of each stream, where they are kept for a check
 abbrev pub AreAccepted : List (List (List Value)) → AcceptedRows → Type 0
@@ -41,7 +42,7 @@ tally_lines (stream ∷ streams) (tally ∷ tallies) = stream_lines stream.name 
 abbrev pub report_lines : RunPlan → List Tally → Gathered → List Entry → List (List ℕ)
 report_lines plan tallies gathered history =
     tally_lines (streams_in plan.nodes) tallies ++ results_text gathered.results.counts.rows gathered.results.counts.puncts ∷ []
-    ++ peaks_in gathered.results.form plan history ++ check_in gathered.accepted.asked plan.nodes gathered.accepted.lists.items
+    ++ form_report gathered.results.form gathered.results.total plan history ++ check_in gathered.accepted.asked plan.nodes gathered.accepted.lists.items
 
 -- where the sink is told: these lines were written, which depend on a history for which the core stands, or as much of them as the stop
 -- leaves
@@ -56,9 +57,13 @@ Reports core tallies gathered old new result = WritesOf (report_lines core.plan 
 abbrev pub ReportsPeaks : {T : Type 0} → CoreState → SinkState → SinkState → Result T WriteStop → Type 0
 ReportsPeaks core old new result = WritesOf (peaks_report core.plan) core old new result
 
--- those of a report in this form
-abbrev pub ReportsPeaksIn : {T : Type 0} → Form → CoreState → SinkState → SinkState → Result T WriteStop → Type 0
-ReportsPeaksIn form core old new result = WritesOf (peaks_in form core.plan) core old new result
+-- those, and behind them the total
+abbrev pub ReportsTotal : {T : Type 0} → ℤ → CoreState → SinkState → SinkState → Result T WriteStop → Type 0
+ReportsTotal total core old new result = WritesOf (form_report Summed total core.plan) core old new result
+
+-- the lines that a report has where results have this form
+abbrev pub ReportsForm : {T : Type 0} → Form → ℤ → CoreState → SinkState → SinkState → Result T WriteStop → Type 0
+ReportsForm form total core old new result = WritesOf (form_report form total core.plan) core old new result
 
 -- where the sink is told: what is written once the turns are made, the lines that were withheld of these outputs and the report
 abbrev pub Finishes : {T : Type 0} → List Element → CoreState → List Tally → Gathered → SinkState → SinkState → Result T WriteStop → Type 0

@@ -14,9 +14,10 @@ use Rattle.pj_feed.specs.Named.{AreTold, files_named, IsAlone}
 use Rattle.pj_run.specs.Ends.{EndsBefore, EndsAtBytes, EndsAtLimit, ArrivedOf}
 use Rattle.pj_feed.specs.Feeds.{FeedState, AreSameFeeds, AreAllTaken, AllTold, bytes_of, files_of}
 use Rattle.pj_feed.specs.Opened.{HasLasts, OpensFirst, StayOutside, TriesAtMost}
-use Rattle.pj_run.specs.Runs.{GoesBeyond, run_lines}
+use Rattle.pj_run.specs.Runs.{GoesBeyond, outs_of, run_lines}
 use Rattle.pj_run.specs.Turning.{CutEnd, TurnsEnd}
 use Rattle.pj_run.specs.Cuts.{run_cut, files_cut}
+use Rattle.pj_report.specs.Forms.{shown}
 use Rattle.pj_report.specs.Written.{WritesBy}
 
 -- ---- over feeds
@@ -24,6 +25,10 @@ use Rattle.pj_report.specs.Written.{WritesBy}
 -- where the files and the sink are told: these lines were written, or as much of them as the stop leaves
 abbrev pub FeedsWrite : {T : Type 0} → List FeedState → List (List ℕ) → SinkState → SinkState → Result T RunStop → Type 0
 FeedsWrite feeds lines old new result = AllTold feeds → IsTrue new.told → WritesBy run_cut lines old new result
+
+-- the lines that the turns of a run write as they are made
+abbrev pub TurnsWrite : {T : Type 0} → Job → List FeedState → SinkState → SinkState → Result T RunStop → Type 0
+TurnsWrite job feeds old new result = FeedsWrite feeds (shown job.form job.nodes (outs_of job (files_of feeds))) old new result
 
 -- where the files and the sink are told: what the stop of a run's turns leaves of the sink and of the feeds
 abbrev pub StoppedTurns : {T : Type 0} → Job → List FeedState → List FeedState → SinkState → SinkState → Result T RunStop → Type 0

@@ -1,5 +1,5 @@
 -- What a plan's run over files hands out, and the lines that it writes. There is one file for each stream.
-use Rattle.std.specs.Prelude.{◌≡◌, ◌<◌, true, false, Bool, ℕ, List, [], ◌∷◌, ◌++◌, map, length}
+use Rattle.std.specs.Prelude.{◌≡◌, ◌<◌, true, false, Bool, ℕ, ℤ, List, [], ◌∷◌, ◌++◌, map, length}
 use Rattle.pj_run.specs.Jobs.{Job}
 use Rattle.pj_plan.specs.declared.node.PlanNode.{PlanNode}
 use Rattle.pj_plan.specs.Nodes.{joins_of, streams_in}
@@ -26,9 +26,9 @@ use Rattle.pj_run.specs.PlanNames.{HasShortNames}
 use Rattle.pj_run.specs.declared.run.Writing.{Writing}
 use Rattle.pj_value.specs.declared.values.Value.{Value}
 use Rattle.pj_report.specs.declared.writer.Form.{Form}
-use Rattle.pj_report.specs.declared.writer.Form.TheVariants.{AsTheyCome, Sorted}
-use Rattle.pj_report.specs.Forms.{form_lines}
-use Rattle.pj_report.specs.Report.{check_line, stream_lines, results_line, peak_line}
+use Rattle.pj_report.specs.declared.writer.Form.TheVariants.{AsTheyCome, Sorted, Summed}
+use Rattle.pj_report.specs.Forms.{form_lines, total_in}
+use Rattle.pj_report.specs.Report.{check_line, stream_lines, results_line, peak_line, total_line}
 use Rattle.pj_feed.specs.Feeds.{accepted_of}
 
 -- ---- the plan as it is run
@@ -81,10 +81,12 @@ peak_report plan history join = peak_line (node_name plan.nodes join) (peak_of (
 abbrev pub peaks_report : RunPlan → List Entry → List (List ℕ)
 peaks_report plan history = map (peak_report plan history) (joins_of plan.nodes)
 
--- those of a report: none where results are sorted
-abbrev pub peaks_in : Form → RunPlan → List Entry → List (List ℕ)
-peaks_in AsTheyCome plan history = peaks_report plan history
-peaks_in Sorted plan history = []
+-- the lines that a report has where results have this form: those of the peaks, unless results are sorted, and behind them their total,
+-- where they are summed
+abbrev pub form_report : Form → ℤ → RunPlan → List Entry → List (List ℕ)
+form_report AsTheyCome total plan history = peaks_report plan history
+form_report Sorted total plan history = []
+form_report Summed total plan history = peaks_report plan history ++ total_line total ∷ []
 
 -- the rows that were accepted of each stream
 abbrev pub accepted_rows : Job → List (List ℕ) → List (List (List Value))
@@ -95,10 +97,10 @@ abbrev pub check_in : Bool → List PlanNode → List (List (List Value)) → Li
 check_in false nodes lists = []
 check_in true nodes lists = check_line (length (answer_of nodes lists)) ∷ []
 
--- the report: the lines of each stream, the counts of results, the peaks of the joins, and the check
+-- the report: the lines of each stream, the counts of results, the peaks of the joins, the total, and the check
 abbrev pub report_of : Job → List (List ℕ) → List Element → List (List ℕ)
 report_of job files outputs =
-    streams_report (streams_in job.nodes) files ++ results_line outputs ∷ [] ++ peaks_in job.form (plan_run job) (history_of job files)
+    streams_report (streams_in job.nodes) files ++ results_line outputs ∷ [] ++ form_report job.form (total_in job.form outputs) (plan_run job) (history_of job files)
     ++ check_in job.check job.nodes (accepted_rows job files)
 
 -- all lines of the run

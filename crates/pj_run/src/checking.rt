@@ -16,15 +16,15 @@ use std::alloc::Global;
 
 /// The rows that were accepted of each stream, where a check asks for them; else no lists.
 #[derive(Drop)]
-pub(crate) struct AcceptedRows {
-    pub(crate) asked: bool,
-    pub(crate) lists: Vec<List<Row>>,
+pub struct AcceptedRows {
+    pub asked: bool,
+    pub lists: Vec<List<Row>>,
 }
 
 impl AcceptedRows {
     /// No rows of so many streams, for each of which there is a list where rows are asked for.
     #[tactic(auto, using(crate::proofs::Keeping::none_more))]
-    pub(crate) fn new(alloc: Global, asked: bool, streams: usize) -> Result<AcceptedRows, NoMemory>
+    pub fn new(alloc: Global, asked: bool, streams: usize) -> Result<AcceptedRows, NoMemory>
         ensures asked { IfOk result (λ rows. rows.asked ≡ asked) }
         ensures none { IfOk result (λ rows. HoldsNone (if asked then streams else 0) rows.lists.items) }
     {
@@ -37,7 +37,7 @@ impl AcceptedRows {
     }
 
     /// Keeps the row that a turn brings, if it brings one and rows are asked for.
-    pub(crate) fn keep(&mut self, alloc: Global, next: &Arrival) -> Result<(), NoMemory>
+    pub fn keep(&mut self, alloc: Global, next: &Arrival) -> Result<(), NoMemory>
         requires there { self.old.asked ≡ true → IsThere next.now self.old.lists.items }
         ensures asked { self.new.asked ≡ self.old.asked }
         ensures many { length self.new.lists.items ≡ length self.old.lists.items }

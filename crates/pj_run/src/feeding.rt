@@ -14,7 +14,7 @@ use pj_io::{Failed, Sink, Source};
 /// The next turn: in rounds each stream has one, as long as its closing is still to come. `None`
 /// exactly where no stream has. What the output holds back is handed on before a read. After an `Err`
 /// no further turn can be made.
-pub(crate) fn next_turn<S: Source, K: Sink>(
+pub fn next_turn<S: Source, K: Sink>(
     feeds: &mut Feeds<S>,
     out: &mut K,
 ) -> Result<Option<Arrival>, FeedStop>
@@ -44,8 +44,9 @@ pub(crate) fn next_turn<S: Source, K: Sink>(
     }
 }
 
-// The next turn of a stream whose closing is still to come: its next accepted element, or its closing.
-fn next_of<S: Source, K: Sink>(feed: &mut Feed<S>, out: &mut K) -> Result<Arrival, FeedWhy>
+/// The next turn of a stream whose closing is still to come: its next accepted element, or its closing. What the output holds back
+/// is handed on before a read. After an `Err` no further turn can be made.
+pub fn next_of<S: Source, K: Sink>(feed: &mut Feed<S>, out: &mut K) -> Result<Arrival, FeedWhy>
     requires fed { IsFed feed.old }
     requires open { feed.old.is_open ≡ true }
     ensures fed { OnOk result (IsFed feed.new) }

@@ -9,6 +9,9 @@ mod status;
 mod stops;
 mod turns;
 
-pub use run::{Writing, run_files};
+pub use checking::AcceptedRows;
+pub use feeding::{next_of, next_turn};
+pub use run::{Gathered, Writing, finish, run_files};
 pub use status::write_stop;
-pub use stops::{FilesStop, RunStop, TurnStop};
+pub use stops::{FeedStop, FeedWhy, FilesStop, RunStop, TurnStop};
+pub use turns::{take_turn, turn_end};

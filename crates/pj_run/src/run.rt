@@ -4,13 +4,15 @@ ghost use Rattle.pj_pattern.specs.declared.element.Element.{Element};
 ghost use Rattle.pj_plan.specs.Nodes.{streams_in};
 ghost use Rattle.pj_io.specs.Causes.{Rose};
 ghost use Rattle.pj_io.specs.Folders.{NoneFalls, SameEverywhere};
-ghost use Rattle.pj_report.specs.Forms.{shown};
 ghost use Rattle.pj_core.specs.Cores.{StandsFor};
 ghost use Rattle.pj_feed.specs.Feeds.{AreFeeds, AreNew, AreSameFeeds, AllTold, AreAllTaken, files_of, tallies_in};
 ghost use Rattle.pj_feed.specs.Opened.{AreOpened, AreReadToEnd, StayOutside, StayReadToEnd, names_in};
+ghost use Rattle.pj_report.specs.declared.writer.Form.{Form};
+ghost use Rattle.pj_run.specs.Cuts.{files_cut, run_cut};
 ghost use Rattle.pj_run.specs.Outcome.{Finishes, IsOutcome};
-ghost use Rattle.pj_run.specs.RunEnds.{AreRead, FeedsCause, FeedsWrite, FilesCause, FilesOpened, FilesWrite, StoppedFeeds, StoppedFiles, StoppedTurns, TurnsCause};
-ghost use Rattle.pj_run.specs.Runs.{IsNewCore, history_of, job_in, outs_of, run_lines};
+ghost use Rattle.pj_run.specs.RunEnds.{AreRead, FeedsCause, FeedsWrite, FilesCause, FilesOpened, FilesWrite, StoppedFeeds, StoppedFiles, StoppedTurns, TurnsCause, TurnsWrite};
+ghost use Rattle.pj_run.specs.Runs.{IsNewCore, history_of, job_in, run_lines};
+ghost use Rattle.pj_run.specs.Whole.{HasTaken, ReportsWhole, WritesWhole};
 
 use crate::checking::AcceptedRows;
 use crate::feeding::next_turn;
@@ -32,11 +34,11 @@ pub struct Writing {
     pub check: bool,
 }
 
-// What a run has gathered for its end: the writer of its results, and the rows that are kept for a check.
+/// What a run has gathered for its end: the writer of its results, and the rows that are kept for a check.
 #[derive(Drop)]
-pub(crate) struct Gathered {
-    pub(crate) results: ResultWriter,
-    pub(crate) accepted: AcceptedRows,
+pub struct Gathered {
+    pub results: ResultWriter,
+    pub accepted: AcceptedRows,
 }
 
 /// Runs the plan of a new core over the files of these names, one for each stream, which are read as the run goes on: writes the
@@ -55,6 +57,7 @@ pub fn run_files<F: Folder, K: Sink>(
     ensures plan { core.new.plan ≡ core.old.plan }
     ensures told { IsTrue (K.state out.new).told → IsTrue (K.state out.old).told }
     ensures lines { FilesWrite (job_in writing core.old) names.now (F.state folder.old) (K.state out.old) (K.state out.new) result }
+    ensures whole { WritesWhole files_cut (K.state out.old) (K.state out.new) result }
     ensures ends { StoppedFiles (job_in writing core.old) names.now (F.state folder.old) (F.state folder.new) (K.state out.old) (K.state out.new) result }
     ensures unopened { (stop : OpeningStop) → result ≡ Err (FilesStop.Opening stop) → out.new ≡ out.old }
     ensures last { OnOk result (AreReadToEnd names.now (F.state folder.old) (F.state folder.new)) }
@@ -99,6 +102,7 @@ fn run_feeds<F: Folder, K: Sink>(
     ensures plan { core.new.plan ≡ core.old.plan }
     ensures told { IsTrue (K.state out.new).told → IsTrue (K.state out.old).told }
     ensures lines { FeedsWrite feeds.items (run_lines (job_in writing core.old) (files_of feeds.items)) (K.state out.old) (K.state out.new) result }
+    ensures whole { WritesWhole run_cut (K.state out.old) (K.state out.new) result }
     ensures ends { StoppedFeeds (job_in writing core.old) feeds.items (F.state folder.old) (F.state folder.new) (K.state out.old) (K.state out.new) result }
     ensures handed_on { OnOk result ((K.state out.new).held ≡ []) }
     ensures last { OnOk result (AreRead feeds.items (F.state folder.old) (F.state folder.new)) }
@@ -118,8 +122,8 @@ fn run_feeds<F: Folder, K: Sink>(
     Ok(finish(alloc, core, tallies.as_slice(), &gathered, &mut text, out)?)
 }
 
-// Writes the results that were withheld and the report, and hands on what the sink holds back.
-fn finish<K: Sink>(
+/// Writes the results that were withheld and the report, and hands on what the sink holds back.
+pub fn finish<K: Sink>(
     alloc: Global,
     core: &Core,
     tallies: &[Tally],
@@ -131,6 +135,7 @@ fn finish<K: Sink>(
     requires each { length tallies.now ≡ length (streams_in core.now.plan.nodes) }
     ensures told { IsTrue (K.state out.new).told → IsTrue (K.state out.old).told }
     ensures lines { (outputs : List Element) → Finishes outputs core.now tallies.now gathered.now (K.state out.old) (K.state out.new) result }
+    ensures whole { (form : Form) → HasTaken form gathered.now.results → ReportsWhole core.now.plan.nodes (K.state out.old) (K.state out.new) result }
     ensures handed_on { OnOk result ((K.state out.new).held ≡ []) }
     ensures later { (K.state out.old).faults ≤ (K.state out.new).faults }
     ensures fault { result ≡ Err WriteStop.Failed → Rose (K.state out.old).faults (K.state out.new).faults }
@@ -158,11 +163,13 @@ fn run_streams<S: Source, K: Sink>(
     ensures on { OnOk result (core.new.kept.stop ≡ None) }
     ensures same { AreSameFeeds feeds.old.feeds.items feeds.new.feeds.items }
     ensures told { IsTrue (K.state out.new).told → IsTrue (K.state out.old).told }
-    ensures lines { FeedsWrite feeds.old.feeds.items (shown writing.form core.old.plan.nodes (outs_of (job_in writing core.old) (files_of feeds.old.feeds.items))) (K.state out.old) (K.state out.new) result }
+    ensures lines { TurnsWrite (job_in writing core.old) feeds.old.feeds.items (K.state out.old) (K.state out.new) result }
+    ensures whole { WritesWhole run_cut (K.state out.old) (K.state out.new) result }
     ensures ends { StoppedTurns (job_in writing core.old) feeds.old.feeds.items feeds.new.feeds.items (K.state out.old) (K.state out.new) result }
     ensures outcome { AllTold feeds.old.feeds.items → IfOk result (λ gathered. IsOutcome (job_in writing core.old) (files_of feeds.old.feeds.items) (tallies_in feeds.new.feeds.items) gathered) }
     ensures stands { AllTold feeds.old.feeds.items → OnOk result (StandsFor core.new (history_of (job_in writing core.old) (files_of feeds.old.feeds.items))) }
     ensures taken { OnOk result (AreAllTaken feeds.new.feeds.items) }
+    ensures has_taken { IfOk result (λ gathered. HasTaken writing.form gathered.results) }
     ensures causes { IfErr result (λ stop. TurnsCause stop (job_in writing core.old) feeds.old.feeds.items feeds.new.feeds.items (K.state out.old) (K.state out.new)) }
     ensures later { (K.state out.old).faults ≤ (K.state out.new).faults }
 {

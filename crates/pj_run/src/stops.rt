@@ -10,7 +10,7 @@ use pj_value::NoMemory;
 
 /// Why the next turn of a stream was not had.
 #[derive(Clone, Copy, Debug, PartialEq, Eq)]
-pub(crate) enum FeedWhy {
+pub enum FeedWhy {
     /// Its intake stopped.
     Intake(IntakeStop),
     /// The output failed, as what it holds back was to be handed on before a read.
@@ -19,9 +19,9 @@ pub(crate) enum FeedWhy {
 
 /// Why the next turn of a stream, counted from 0, was not had.
 #[derive(Clone, Copy, Debug, PartialEq, Eq)]
-pub(crate) struct FeedStop {
-    pub(crate) stream: u32,
-    pub(crate) why: FeedWhy,
+pub struct FeedStop {
+    pub stream: u32,
+    pub why: FeedWhy,
 }
 
 /// Why a turn was not made to its end, or its lines were not written.

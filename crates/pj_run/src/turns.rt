@@ -6,6 +6,9 @@ ghost use Rattle.pj_io.specs.Causes.{Rose};
 ghost use Rattle.pj_core.specs.Calls.{IsTurnRefused, MakesTurn};
 ghost use Rattle.pj_feed.specs.Feeds.{turn_in};
 ghost use Rattle.pj_run.specs.Stops.{end_of, of_core};
+ghost use Rattle.pj_run.specs.Cuts.{turn_cut};
+ghost use Rattle.pj_run.specs.PlanNames.{HasShortNames};
+ghost use Rattle.pj_run.specs.Whole.{WritesWhole};
 ghost use Rattle.pj_run.specs.Turning.{IsTurnOf, Turned, TurnDone, TurnStopsBehind, TurnWrites};
 
 use crate::stops::TurnStop;
@@ -22,6 +25,7 @@ use std::alloc::Global;
 ///
 /// `Limit` comes where the turn brings one element beyond the limit of a node; exactly what was handed out before that is
 /// written first. Where that fails, `Cut` tells the stop that came before.
+#[inline(always)]
 pub fn take_turn<K: Sink>(
     alloc: Global,
     core: &mut Core,
@@ -36,6 +40,7 @@ pub fn take_turn<K: Sink>(
     ensures plan { core.new.plan ≡ core.old.plan }
     ensures told { IsTrue (K.state out.new).told → IsTrue (K.state out.old).told }
     ensures lines { TurnWrites results.old.form core.old (turn_in (streams_in core.old.plan.nodes) next) (K.state out.old) (K.state out.new) result }
+    ensures whole { HasShortNames core.old.plan.nodes → WritesWhole turn_cut (K.state out.old) (K.state out.new) result }
     ensures done { OnOk result (TurnDone core.old core.new (turn_in (streams_in core.old.plan.nodes) next) results.old results.new) }
     ensures form { results.new.form ≡ results.old.form }
     ensures stops { IfErr result (λ stop. TurnStopsBehind stop results.old.form core.old (turn_in (streams_in core.old.plan.nodes) next) (K.state out.old) (K.state out.new)) }
@@ -48,8 +53,8 @@ pub fn take_turn<K: Sink>(
     turn_end(written, handed.stop)
 }
 
-// How a turn ends: a stop of the core stands before a failed write of what was handed out until then.
-fn turn_end(written: Result<(), WriteStop>, stop: Option<Stop>) -> Result<(), TurnStop>
+/// How a turn ends: a stop of the core stands before a failed write of what was handed out until then.
+pub fn turn_end(written: Result<(), WriteStop>, stop: Option<Stop>) -> Result<(), TurnStop>
     ensures { result ≡ end_of written stop }
 {
     match stop {

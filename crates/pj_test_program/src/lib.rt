@@ -6,6 +6,8 @@ mod checks;
 #[cfg(test)]
 mod live;
 #[cfg(test)]
+mod made;
+#[cfg(test)]
 mod operators;
 #[cfg(test)]
 mod options;

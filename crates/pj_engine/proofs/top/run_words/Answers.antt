@@ -1,9 +1,12 @@
-use Rattle.std.proofs.Common.{◌≡◌, sym, subst, Option}
+use Rattle.std.proofs.Common.{refl, refl, sym, subst, Option}
 use Rattle.pj_words.specs.declared.request.Request.{Request}
 use Rattle.pj_alone.specs.Calls.{call_by, call_for, wanted}
 use Rattle.pj_alone.specs.Endings.{ending_of, Ending}
-use Rattle.pj_alone.specs.Promises.{Answers, AnswersRefusals, Ends, IsCompleted, IsRightCount, IsRightFault, IsRightFileLimit, IsRightLimit, IsRightlyDone, IsRightlyUnsafe, IsRightOpenFault, IsRightPlanLimit, IsRightReadFault, IsRightUsage, IsRightWriteFault, Punctuates, ReadsToEnd, RetractsNothing, StaysLawful, Tallies, WritesOneThread}
+use Rattle.pj_alone.specs.Promises.{Answers, AnswersRefusals, Ends, IsCompleted, IsRightCount, IsRightFault, IsRightFileLimit, IsRightLimit, IsRightlyDone, IsRightlyUnsafe, IsRightOpenFault, IsRightPlanLimit, IsRightReadFault, IsRightUsage, IsRightWriteFault, LeavesLines, Makes, Punctuates, ReadsToEnd, RetractsNothing, StaysLawful, Tallies, WritesOneThread}
 use Rattle.pj_alone.specs.declared.stops.PlanStop.TheVariants.{Usage as NoPlan, NoMemory as PlanMemory}
+use Rattle.pj_alone.proofs.MemoryLaws.{early_memory}
+use Rattle.pj_alone.proofs.EarlyLaws.{ended_at_words}
+use Rattle.pj_report.specs.declared.status.Status.TheVariants.{NoMemory}
 use Rattle.pj_alone.proofs.StaysLaws.{never_early}
 use Rattle.pj_engine.specs.Words.{call_of}
 use Rattle.pj_engine.proofs.top.run_words.Given.{Over}
@@ -34,6 +37,9 @@ returns-in-Ok-clause-one_thread_bytes g c = said g (goal.at.returns-in-Ok-clause
 pub returns-in-Ok-clause-tallies : goal.returns-in-Ok-clause-tallies
 returns-in-Ok-clause-tallies g c = said g (goal.at.returns-in-Ok-clause-tallies g c).After-run_alone Tallies c.run_alone.ensures.tallies
 
+pub returns-in-Ok-clause-made : goal.returns-in-Ok-clause-made
+returns-in-Ok-clause-made g c = said g (goal.at.returns-in-Ok-clause-made g c).After-run_alone Makes c.run_alone.ensures.made
+
 pub returns-in-Ok-clause-read_to_end : goal.returns-in-Ok-clause-read_to_end
 returns-in-Ok-clause-read_to_end g c = said g (goal.at.returns-in-Ok-clause-read_to_end g c).After-run_alone ReadsToEnd c.run_alone.ensures.read_to_end
 
@@ -42,6 +48,9 @@ returns-in-Ok-clause-ending g c = said g (goal.at.returns-in-Ok-clause-ending g 
 
 pub returns-in-Ok-clause-never_retracted : goal.returns-in-Ok-clause-never_retracted
 returns-in-Ok-clause-never_retracted g c = said g (goal.at.returns-in-Ok-clause-never_retracted g c).After-run_alone RetractsNothing c.run_alone.ensures.never_retracted
+
+pub returns-in-Ok-clause-whole_lines : goal.returns-in-Ok-clause-whole_lines
+returns-in-Ok-clause-whole_lines g c = said g (goal.at.returns-in-Ok-clause-whole_lines g c).After-run_alone LeavesLines c.run_alone.ensures.whole_lines
 
 pub returns-in-Ok-clause-cause_of_done : goal.returns-in-Ok-clause-cause_of_done
 returns-in-Ok-clause-cause_of_done g c = said g (goal.at.returns-in-Ok-clause-cause_of_done g c).After-run_alone IsRightlyDone c.run_alone.ensures.cause_of_done
@@ -91,3 +100,11 @@ returns-in-Err-Usage-clause-never_retracted g c = λ _ all t.
 pub returns-in-Err-NoMemory-clause-never_retracted : goal.returns-in-Err-NoMemory-clause-never_retracted
 returns-in-Err-NoMemory-clause-never_retracted g c = λ _ all t.
     never_early PlanMemory (call_of c.args.words.now (g.F.Folder.state c.args.folder.now)) (g.K.Sink.state c.args.out.now) (g.K.Sink.state c.write_status-in-Err-NoMemory.new.out) t tt c.write_status-in-Err-NoMemory.ensures.line
+
+pub returns-in-Err-NoMemory-clause-whole_lines : goal.returns-in-Err-NoMemory-clause-whole_lines
+returns-in-Err-NoMemory-clause-whole_lines g c = λ _ _. early_memory PlanMemory (g.K.Sink.state c.args.out.now) (g.K.Sink.state c.write_status-in-Err-NoMemory.new.out) c.write_status-in-Err-NoMemory.ensures.line refl
+
+pub returns-in-Err-NoMemory-clause-ending : goal.returns-in-Err-NoMemory-clause-ending
+returns-in-Err-NoMemory-clause-ending g c =
+    let folder = g.F.Folder.state c.args.folder.now in
+    ended_at_words (call_of c.args.words.now folder) NoMemory folder (g.K.Sink.state c.args.out.now) (g.K.Sink.state c.write_status-in-Err-NoMemory.new.out) tt refl c.write_status-in-Err-NoMemory.ensures.line

@@ -1,3 +1,6 @@
+use Rattle.pj_report.specs.Report.{peak_line}
+use Rattle.pj_run.proofs.Notes.{peak_is_note}
+use Rattle.pj_run.proofs.WholeLaws.{leaves_lines, leaves_then, lines_wrote, note_is_line, stop_wrote, wrote_then}
 use Rattle.std.proofs.Common.{◌≡◌, ◌<◌, ◌+◌, ◌++◌, [], ◌∷◌, List, ℕ, map, take, drop, length, get_or, refl, ap, ◌∙◌, subst, arith}
 use Rattle.pj_plan.specs.Nodes.{joins_of}
 use Rattle.pj_run.specs.Runs.{peak_report}
@@ -49,4 +52,18 @@ loop-join-preserved g c =
           subst (λ (ls : List (List ℕ)). new.written ≡ old.written ++ flat ls) (map_more f xs i 0 there)
           (written_then (map f (take i xs)) (line ∷ []) old.written mid.written new.written (c.loop-join.invariant.lines (c.in_ok-write_peak_line.ensures.told t) history stands)
           (subst (λ (ls : List (List ℕ)). new.written ≡ mid.written ++ flat ls) is (c.in_ok-write_peak_line.ensures.lines t)));
+      whole = λ plain t.
+          wrote_then old.written mid.written new.written (c.loop-join.invariant.whole plain (c.in_ok-write_peak_line.ensures.told t))
+          (lines_wrote (peak_line c.name.result.now c.peak.result ∷ []) mid.written new.written (note_is_line _ (peak_is_note c.args.core.now.plan.nodes c.plan-in-loop-join.result.now.nodes (get_or c.joins-join-items.result.now c.loop-join.join-index 0) c.peak.result c.name.result.now c.plan-in-loop-join.ensures c.name.ensures plain)) (c.in_ok-write_peak_line.ensures.lines t));
     }
+
+pub returns-in_err-write_peak_line-clause-whole : goal.returns-in_err-write_peak_line-clause-whole
+returns-in_err-write_peak_line-clause-whole g c = λ plain t.
+    let why = c.in_err-write_peak_line.field-0.0 in
+    let old = g.K.Sink.state c.args.out.now in
+    let mid = g.K.Sink.state c.loop-join.out in
+    let new = g.K.Sink.state c.write_peak_line.new.out in
+    stop_wrote write_cut c.from_residual.result why old new
+    (leaves_then (write_cut why) old.written mid.written new.written (c.loop-join.invariant.whole plain (c.in_err-write_peak_line.ensures.told t))
+    (leaves_lines (write_cut why) _ mid.written new.written (note_is_line _ (peak_is_note c.args.core.now.plan.nodes c.plan-in-loop-join.result.now.nodes (get_or c.joins-join-items.result.now c.loop-join.join-index 0) c.peak.result c.name.result.now c.plan-in-loop-join.ensures c.name.ensures plain)) (c.in_err-write_peak_line.ensures.lines t)))
+    c.from_residual.ensures.1

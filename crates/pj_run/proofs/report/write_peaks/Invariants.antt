@@ -1,3 +1,5 @@
+use Rattle.pj_run.specs.PlanNames.{HasShortNames}
+use Rattle.pj_run.specs.Whole.{WroteLines}
 use Rattle.std.proofs.Common.{◌≡◌, ◌≤◌, ◌++◌, IsTrue, List, map, take}
 use Rattle.pj_plan.specs.Nodes.{joins_of}
 use Rattle.pj_events.specs.declared.events.Entry.{Entry}
@@ -12,4 +14,5 @@ invariant-loop-join g l = record {
   told : IsTrue (g.K.Sink.state l.out).told → IsTrue (g.K.Sink.state l.fn.out).told;
   lines : IsTrue (g.K.Sink.state l.out).told → (history : List Entry) → StandsFor l.core history
       → (g.K.Sink.state l.out).written ≡ (g.K.Sink.state l.fn.out).written ++ flat (map (peak_report l.core.plan history) (take l.join-index (joins_of l.core.plan.nodes)));
+  whole : HasShortNames l.core.plan.nodes → IsTrue (g.K.Sink.state l.out).told → WroteLines (g.K.Sink.state l.fn.out).written (g.K.Sink.state l.out).written;
 }

@@ -1,3 +1,6 @@
+use Rattle.pj_run.specs.PlanNames.{HasShortNames}
+use Rattle.pj_run.specs.Whole.{LeavesWhole}
+use Rattle.pj_run.proofs.WholeLaws.{leaves_then, wrote_then}
 use Rattle.std.proofs.Common.{◌≡◌, ◌++◌, length, sym, ap, ◌∙◌, subst, Err, Ok, List, ℕ}
 use Rattle.pj_core.specs.Plans.{RunPlan}
 use Rattle.pj_plan.specs.Nodes.{streams_in}
@@ -122,3 +125,27 @@ returns-in_err-finish-clause-others g c = closed_others c.args.feeds.items c.run
 
 pub returns-clause-others : goal.returns-clause-others
 returns-clause-others g c = closed_others c.args.feeds.items c.run_streams-ran.new.feeds.feeds.items (g.F.Folder.state c.args.folder.now) (g.F.Folder.state c.close_feeds-closed.new.folder) c.in_ok-gathered.ensures.same c.close_feeds-closed.ensures.others
+
+-- ---- whole lines
+
+pub returns-in_err-gathered-clause-whole : goal.returns-in_err-gathered-clause-whole
+returns-in_err-gathered-clause-whole g c = λ t. rw (err_is c.from_residual.result _ c.from_residual.ensures.1) (c.in_err-gathered.ensures.whole t)
+
+pub returns-in_err-tallies-clause-whole : goal.returns-in_err-tallies-clause-whole
+returns-in_err-tallies-clause-whole g c = λ t. rw (err_is c.from_residual-in_err-tallies.result _ c.from_residual-in_err-tallies.ensures.1) (c.in_ok-gathered.ensures.whole t)
+
+pub returns-in_err-finish-clause-whole : goal.returns-in_err-finish-clause-whole
+returns-in_err-finish-clause-whole g c = λ t.
+    let why = c.in_err-finish.field-0.0 in
+    let before = (g.K.Sink.state c.args.out.now).written in
+    let mid = (g.K.Sink.state c.run_streams-ran.new.out).written in
+    let after = (g.K.Sink.state c.finish.new.out).written in
+    let plain = subst HasShortNames (sym (ap (λ (p : RunPlan). p.nodes) c.run_streams-ran.ensures.plan)) c.requires.fresh.names in
+    rw (err_is c.from_residual-in_err-finish.result _ c.from_residual-in_err-finish.ensures.1)
+    (subst (λ (cut : Cut). LeavesWhole cut before after) (sym (report_cut why))
+    (leaves_then (write_cut why) before mid after (c.in_ok-gathered.ensures.whole (c.in_err-finish.ensures.told t)) (c.in_err-finish.ensures.whole c.args.writing.form c.in_ok-gathered.ensures.has_taken plain t)))
+
+pub returns-clause-whole : goal.returns-clause-whole
+returns-clause-whole g c = λ t.
+    let plain = subst HasShortNames (sym (ap (λ (p : RunPlan). p.nodes) c.run_streams-ran.ensures.plan)) c.requires.fresh.names in
+    wrote_then _ _ _ (c.in_ok-gathered.ensures.whole (c.in_ok-finish.ensures.told t)) (c.in_ok-finish.ensures.whole c.args.writing.form c.in_ok-gathered.ensures.has_taken plain t)

@@ -1,3 +1,4 @@
+use Rattle.pj_run.proofs.WholeLaws.{none_wrote}
 use Rattle.pj_plan.specs.declared.node.PlanNode.{PlanNode}
 use Rattle.pj_plan.specs.Nodes.{streams_in}
 use Rattle.std.proofs.Common.{◌≡◌, ◌++◌, List, ℕ, subst, ap, Err}
@@ -177,3 +178,17 @@ returns-in-Err-clause-others g c =
     let feeds = c.open_feeds.new.feeds.items in
     let of = subst (λ (ss : List PlanNode). AreFeedsOf 0 ss names old feeds) (ap streams_in c.plan.ensures) c.in-Err.ensures.feeds in
     close_stays_all 0 streams names old mid after feeds of c.close_feeds.ensures.others c.open_feeds.ensures.others
+
+-- ---- whole lines
+
+pub returns-in_default-clause-whole : goal.returns-in_default-clause-whole
+returns-in_default-clause-whole g c = λ t. none_wrote _
+
+pub returns-in-Err-clause-whole : goal.returns-in-Err-clause-whole
+returns-in-Err-clause-whole g c = λ t. none_wrote _
+
+pub returns-in-Ok-run_feeds-clause-whole : goal.returns-in-Ok-run_feeds-clause-whole
+returns-in-Ok-run_feeds-clause-whole g c = λ t. c.in-Ok-run_feeds.ensures.whole t
+
+pub returns-in-Err-run_feeds-clause-whole : goal.returns-in-Err-run_feeds-clause-whole
+returns-in-Err-run_feeds-clause-whole g c = λ t. c.in-Err-run_feeds.ensures.whole t

@@ -1,3 +1,8 @@
+use Rattle.pj_core.specs.Plans.{RunPlan}
+use Rattle.pj_events.specs.Outcomes.{elements_out}
+use Rattle.pj_run.specs.PlanNames.{HasShortNames}
+use Rattle.pj_run.specs.Whole.{LeavesWhole}
+use Rattle.pj_run.proofs.WholeLaws.{leaves_then, leaves_wrote, none_wrote, wrote_same, wrote_then}
 use Rattle.pj_plan.specs.Nodes.{streams_in}
 use Rattle.std.proofs.Common.{◌≡◌, [], ◌++◌, sym, append-nil, ap, ◌∙◌, subst, arith, Err, List, ℕ, length}
 use Rattle.pj_events.specs.Outcomes.{outputs_of as handed_out}
@@ -33,6 +38,8 @@ loop-accepted-init g c = (
   keeps_none c.args.writing.check c.in_ok-accepted.accepted (length (streams_in c.args.core.now.plan.nodes)) _ c.in_ok-accepted.ensures.none c.in_ok-accepted.ensures.asked
       (ap length c.as_slice.ensures.value ∙ feeds_long 0 (streams_in c.args.core.now.plan.nodes) c.args.feeds.now.feeds.items c.requires.feeds),
   c.in_ok-accepted.ensures.asked,
+  λ t. none_wrote _,
+  ([], c.new-results.ensures),
 )
 
 pub next_turn-requires-clause-few : goal.next_turn-requires-clause-few
@@ -136,6 +143,13 @@ loop-accepted-preserved g c =
           (λ told streams f. given_some streams c.in_ok-next.field-0 c.in-Some.next _ _ c.in-Some.is (c.in_ok-next.ensures.gives told streams f))
           (brings_some feeds c.in_ok-next.field-0 c.in-Some.next c.in-Some.is c.in_ok-next.ensures.brings))),
       c.in_ok-keep.ensures.asked ∙ c.loop-accepted.invariant.6,
+      λ t'.
+          let told = c.in_ok-take_turn.ensures.told t' in
+          let plain = subst HasShortNames (sym (ap (λ (p : RunPlan). p.nodes) c.loop-accepted.invariant.1.of_plan)) c.requires.fresh.names in
+          wrote_then (g.K.Sink.state c.args.out.now).written (g.K.Sink.state c.next_turn.new.out).written (g.K.Sink.state c.take_turn.new.out).written
+          (wrote_same _ _ _ (c.in_ok-next.ensures.written.same told) (c.loop-accepted.invariant.7 (c.in_ok-next.ensures.written.told told))) (c.in_ok-take_turn.ensures.whole plain t'),
+      let taken = c.loop-accepted.invariant.8 in
+          (taken.0 ++ elements_out c.in_ok-take_turn.ensures.done.outs, c.in_ok-take_turn.ensures.done.taken c.args.writing.form taken.0 taken.1),
     )
 
 pub returns-in_err-take_turn-clause-same : goal.returns-in_err-take_turn-clause-same
@@ -252,3 +266,36 @@ returns-clause-taken g c =
     let closed = brings_none feeds c.in_ok-next.field-0 c.in_default.is c.in_ok-next.ensures.brings in
     let same = same_none feeds c.next_turn.new.feeds.feeds.items c.in_ok-next.field-0 c.in_default.is c.in_ok-next.ensures.nothing in
     subst AreAllTaken (sym same) (all_taken 0 (streams_in c.args.core.now.plan.nodes) feeds c.loop-accepted.invariant.1.fed closed)
+
+-- ---- whole lines
+
+pub returns-in_err-accepted-clause-whole : goal.returns-in_err-accepted-clause-whole
+returns-in_err-accepted-clause-whole g c = λ t. rw (err_is c.from_residual.result _ c.from_residual.ensures.1) (none_wrote _)
+
+pub returns-in_err-next-clause-whole : goal.returns-in_err-next-clause-whole
+returns-in_err-next-clause-whole g c = λ t.
+    rw (err_is c.from_residual-in_err-next.result _ c.from_residual-in_err-next.ensures.1)
+    (leaves_wrote (run_cut (of_feed c.in_err-next.field-0.0)) _ _ (wrote_same _ _ _ (c.in_err-next.ensures.written.same t) (c.loop-accepted.invariant.7 (c.in_err-next.ensures.written.told t))))
+
+pub returns-in_err-keep-clause-whole : goal.returns-in_err-keep-clause-whole
+returns-in_err-keep-clause-whole g c = λ t.
+    rw (err_is c.from_residual-in_err-keep.result _ c.from_residual-in_err-keep.ensures.1)
+    (wrote_same _ _ _ (c.in_ok-next.ensures.written.same t) (c.loop-accepted.invariant.7 (c.in_ok-next.ensures.written.told t)))
+
+pub returns-in_err-take_turn-clause-whole : goal.returns-in_err-take_turn-clause-whole
+returns-in_err-take_turn-clause-whole g c = λ t.
+    let stop = c.in_err-take_turn.field-0.0 in
+    let before = (g.K.Sink.state c.args.out.now).written in
+    let mid = (g.K.Sink.state c.next_turn.new.out).written in
+    let after = (g.K.Sink.state c.take_turn.new.out).written in
+    let told = c.in_err-take_turn.ensures.told t in
+    let plain = subst HasShortNames (sym (ap (λ (p : RunPlan). p.nodes) c.loop-accepted.invariant.1.of_plan)) c.requires.fresh.names in
+    rw (err_is c.from_residual-in_err-take_turn.result _ c.from_residual-in_err-take_turn.ensures.1)
+    (subst (λ (cut : Cut). LeavesWhole cut before after) (sym (turn_cut_same stop))
+    (leaves_then (turn_cut stop) before mid after (wrote_same _ _ _ (c.in_ok-next.ensures.written.same told) (c.loop-accepted.invariant.7 (c.in_ok-next.ensures.written.told told))) (c.in_err-take_turn.ensures.whole plain t)))
+
+pub returns-clause-whole : goal.returns-clause-whole
+returns-clause-whole g c = λ t. wrote_same _ _ _ (c.in_ok-next.ensures.written.same t) (c.loop-accepted.invariant.7 (c.in_ok-next.ensures.written.told t))
+
+pub returns-clause-has_taken : goal.returns-clause-has_taken
+returns-clause-has_taken g c = c.loop-accepted.invariant.8

@@ -1,3 +1,4 @@
+use Rattle.pj_run.proofs.WholeLaws.{end_wrote, shown_are_lines, wrote_lines}
 use Rattle.std.proofs.Common.{◌∙◌, List, refl, subst, IsTrue}
 use Rattle.pj_plan.specs.declared.node.PlanNode.{PlanNode}
 use Rattle.pj_plan.specs.Nodes.{streams_in}
@@ -38,3 +39,12 @@ returns-clause-fault g c = end_fault c.turn_core-handed.result.stop c.take-writt
 
 pub returns-clause-cut : goal.returns-clause-cut
 returns-clause-cut g c = λ stop. end_cut c.turn_core-handed.result.stop c.take-written.result c.turn_end.result stop _ c.turn_end.ensures c.take-written.ensures.fault
+
+pub returns-clause-whole : goal.returns-clause-whole
+returns-clause-whole g c = λ plain t.
+    let form = c.args.results.now.form in
+    let nodes = c.args.core.now.plan.nodes in
+    let old = g.K.Sink.state c.args.out.now in
+    let new = g.K.Sink.state c.take-written.new.out in
+    end_wrote c.take-written.result c.turn_core-handed.result.stop c.turn_end.result old new c.turn_end.ensures
+    (wrote_lines write_cut (shown form nodes c.as_slice.result.now) old new c.take-written.result (shown_are_lines form nodes c.as_slice.result.now plain) (wrote g (goal.at.returns-clause-whole g c).After-take-written t))
