@@ -1,0 +1,125 @@
+// The next turn of a stream arrives at a hand.
+ghost use Rattle.std.specs.Prelude.{◌≡◌, ◌<◌, ◌≤◌, IsTrue, true, [], None, length, IfErr, IfOk, OnErr, OnOk};
+ghost use Rattle.pj_events.specs.OneThread.{arrival_of};
+ghost use Rattle.pj_feed.specs.Feeds.{turn_in, work_of, AreSameFeeds, BringsOf, ComesBehind, GivesTurn, IsFed, IsSameFeed};
+ghost use Rattle.pj_hand.specs.Steps.{HandArrives, IsHandCause, IsHandRefused};
+ghost use Rattle.pj_intake.specs.Taking.{waits_for_read};
+ghost use Rattle.pj_io.specs.Causes.{Rose};
+ghost use Rattle.pj_plan.specs.Nodes.{streams_in};
+ghost use Rattle.pj_report.specs.Written.{WritesNothing};
+ghost use Rattle.pj_run.specs.Feeding.{FeedEnds};
+ghost use Rattle.pj_run.specs.Stops.{of_core, of_turn};
+ghost use Rattle.pj_run.specs.Turning.{IsTurnOf};
+ghost use Rattle.pj_script.specs.declared.step.ScriptStep.TheVariants.{Arrive};
+ghost use Rattle.pj_replay.specs.Playing.{AnswersPlay, IsOpenAt, IsReady, NextAt, NoneAt, StepStops, stage};
+
+use pj_core::Stop;
+use pj_feed::{Arrival, Feed, Feeds};
+use pj_hand::Hand;
+use pj_io::{Failed, Sink, Source};
+use pj_run::{FeedStop, FeedWhy, Gathered, RunStop};
+use std::alloc::Global;
+
+/// Makes the next turn of a stream, counted from 0, arrive at the hand, and keeps its row; `false` exactly where the stream has ended.
+/// What the output holds back is handed on before a read.
+pub(crate) fn arrive<S: Source, K: Sink>(
+    alloc: Global,
+    hand: &mut Hand,
+    feeds: &mut Feeds<S>,
+    gathered: &mut Gathered,
+    stream: u32,
+    out: &mut K,
+) -> Result<bool, RunStop>
+    requires ready { IsReady (stage hand.old feeds.old.feeds.items gathered.old (K.state out.old)) }
+    requires there { stream < length (streams_in hand.old.core.plan.nodes) }
+    ensures ok { IfOk result (λ made. AnswersPlay made (stage hand.old feeds.old.feeds.items gathered.old (K.state out.old)) (stage hand.new feeds.new.feeds.items gathered.new (K.state out.new)) (Arrive stream)) }
+    ensures err { IfErr result (λ stop. StepStops stop (stage hand.old feeds.old.feeds.items gathered.old (K.state out.old)) (stage hand.new feeds.new.feeds.items gathered.new (K.state out.new)) (Arrive stream)) }
+    ensures at { feeds.new.at ≡ feeds.old.at }
+    ensures same { AreSameFeeds feeds.old.feeds.items feeds.new.feeds.items }
+    ensures told { IsTrue (K.state out.new).told → IsTrue (K.state out.old).told }
+    ensures later { (K.state out.old).faults ≤ (K.state out.new).faults }
+{
+    if !feeds.feeds[stream as usize].is_open() {
+        return Ok(false);
+    }
+    let next = next_at(feeds, stream, out)?;
+    gathered.accepted.keep(alloc, &next)?;
+    match enter(hand, next) {
+        Ok(()) => Ok(true),
+        Err(stop) => Err(run_stop(stop)),
+    }
+}
+
+// The next turn of the stream at this place, whose closing is still to come.
+fn next_at<S: Source, K: Sink>(
+    feeds: &mut Feeds<S>,
+    stream: u32,
+    out: &mut K,
+) -> Result<Arrival, FeedStop>
+    requires open { IsOpenAt feeds.old.feeds.items stream }
+    ensures ok { IfOk result (NextAt feeds.old.feeds.items feeds.new.feeds.items stream) }
+    ensures err { IfErr result (NoneAt feeds.old.feeds.items feeds.new.feeds.items stream (K.state out.old) (K.state out.new)) }
+    ensures written { WritesNothing (K.state out.old) (K.state out.new) }
+    ensures at { feeds.new.at ≡ feeds.old.at }
+{
+    match next_arrival(&mut feeds.feeds[stream as usize], out) {
+        Ok(next) => Ok(next),
+        Err(why) => Err(FeedStop { stream, why }),
+    }
+}
+
+// The next turn of a stream whose closing is still to come, and that whatever its source tells it follows what was accepted before.
+fn next_arrival<S: Source, K: Sink>(feed: &mut Feed<S>, out: &mut K) -> Result<Arrival, FeedWhy>
+    requires fed { IsFed feed.old }
+    requires open { feed.old.is_open ≡ true }
+    ensures fed { OnOk result (IsFed feed.new) }
+    ensures same { IsSameFeed feed.old feed.new }
+    ensures gives { IfOk result (GivesTurn feed.old feed.new) }
+    ensures comes { IfOk result (ComesBehind feed.old feed.new) }
+    ensures brings { IfOk result (BringsOf feed.old) }
+    ensures written { WritesNothing (K.state out.old) (K.state out.new) }
+    ensures stops { IfErr result (λ why. FeedEnds feed.old feed.new (K.state out.old) (K.state out.new) why) }
+{
+    'lines: loop {
+        hand_on(feed, out)?;
+        match feed.step() {
+            Ok(Some(next)) => return Ok(next),
+            Ok(None) => {}
+            Err(stop) => return Err(FeedWhy::Intake(stop)),
+        }
+    }
+}
+
+// Hands on what the output holds back, where the stream waits for its file.
+fn hand_on<S: Source, K: Sink>(feed: &Feed<S>, out: &mut K) -> Result<(), Failed>
+    ensures written { WritesNothing (K.state out.old) (K.state out.new) }
+    ensures handed_on { OnOk result (waits_for_read feed.now.intake ≡ true → (K.state out.new).held ≡ []) }
+    ensures fault { OnErr result (Rose (K.state out.old).faults (K.state out.new).faults) }
+{
+    if feed.waits() {
+        out.flush()?;
+    }
+    Ok(())
+}
+
+// A turn arrives at a hand.
+fn enter(hand: &mut Hand, next: Arrival) -> Result<(), Stop>
+    requires { IsTurnOf (streams_in hand.old.core.plan.nodes) (turn_in (streams_in hand.old.core.plan.nodes) next) }
+    ensures ok { OnOk result (HandArrives hand.old hand.new (arrival_of (turn_in (streams_in hand.old.core.plan.nodes) next))) }
+    ensures err { IfErr result (λ stop. IsHandRefused hand.old.core.kept.stop hand.old hand.new stop (IsHandCause hand.old (arrival_of (turn_in (streams_in hand.old.core.plan.nodes) next)).event stop)) }
+{
+    match next {
+        Arrival::Brought { stream, element } => hand.arrive(stream, element),
+        Arrival::Closing { stream } => hand.close_stream(stream),
+    }
+}
+
+// The stop of a run in which the core stopped.
+pub(crate) fn run_stop(stop: Stop) -> RunStop
+    ensures { result ≡ of_turn (of_core stop) }
+{
+    match stop {
+        Stop::Limit { node } => RunStop::Limit { node },
+        Stop::NoMemory => RunStop::NoMemory,
+    }
+}

@@ -1,0 +1,49 @@
+// The turns that are left of a run that has begun.
+ghost use Rattle.std.specs.Prelude.{◌≡◌, ◌≤◌, [], None, length, IsTrue, IfErr, OnOk};
+ghost use Rattle.pj_feed.specs.Feeds.{AreAllTaken, AreFeeds, AreSameFeeds};
+ghost use Rattle.pj_plan.specs.Nodes.{streams_in};
+ghost use Rattle.pj_plan.specs.Sound.{IsSoundPlan};
+ghost use Rattle.pj_replay.specs.Goes.{EndsRun, HasLists, StopCause, StopsRun, WhereGoing, WritesRun};
+
+use pj_core::Core;
+use pj_feed::Feeds;
+use pj_io::{Sink, Source};
+use pj_run::{Gathered, RunStop, next_turn, take_turn};
+use pj_value::List as Items;
+use std::alloc::Global;
+
+/// Goes on with a run that has begun: in rounds each stream has a turn, as long as its closing is still to come, and the lines of
+/// what each turn hands out are written, which are handed on before a read. The core has not stopped and was drained.
+///
+/// Whatever history the run is to make, of which it has made a front and these turns are the rest: it makes the whole.
+pub fn go_on<S: Source, K: Sink>(
+    alloc: Global,
+    core: &mut Core,
+    feeds: &mut Feeds<S>,
+    gathered: &mut Gathered,
+    text: &mut Items<u8>,
+    out: &mut K,
+) -> Result<(), RunStop>
+    requires sound { IsSoundPlan core.old.plan.nodes }
+    requires on { core.old.kept.stop ≡ None }
+    requires drained { core.old.kept.undrained ≡ [] }
+    requires feeds { AreFeeds 0 (streams_in core.old.plan.nodes) feeds.old.feeds.items }
+    requires lists { HasLists (length (streams_in core.old.plan.nodes)) gathered.old.accepted }
+    ensures plan { core.new.plan ≡ core.old.plan }
+    ensures on { OnOk result (core.new.kept.stop ≡ None) }
+    ensures same { AreSameFeeds feeds.old.feeds.items feeds.new.feeds.items }
+    ensures asked { gathered.new.accepted.asked ≡ gathered.old.accepted.asked }
+    ensures told { IsTrue (K.state out.new).told → IsTrue (K.state out.old).told }
+    ensures lines { WhereGoing core.old feeds.old.feeds.items feeds.old.at gathered.old (K.state out.old) (λ run. WritesRun run (K.state out.new) result) }
+    ensures ends { WhereGoing core.old feeds.old.feeds.items feeds.old.at gathered.old (K.state out.old) (λ run. IfErr result (λ stop. StopsRun stop run feeds.new.feeds.items (K.state out.new))) }
+    ensures outcome { OnOk result (WhereGoing core.old feeds.old.feeds.items feeds.old.at gathered.old (K.state out.old) (λ run. EndsRun run core.new feeds.new.feeds.items gathered.new)) }
+    ensures causes { WhereGoing core.old feeds.old.feeds.items feeds.old.at gathered.old (K.state out.old) (λ run. IfErr result (λ stop. StopCause stop run feeds.new.feeds.items (K.state out.new))) }
+    ensures taken { OnOk result (AreAllTaken feeds.new.feeds.items) }
+    ensures later { (K.state out.old).faults ≤ (K.state out.new).faults }
+{
+    'turns: while let Some(next) = next_turn(feeds, out)? {
+        gathered.accepted.keep(alloc, &next)?;
+        take_turn(alloc, core, next, &mut gathered.results, text, out)?;
+    }
+    Ok(())
+}

@@ -1,0 +1,150 @@
+// The steps of a script, one by one, up to the first that is not enabled.
+ghost use Rattle.std.specs.Prelude.{◌≡◌, ◌≤◌, IsTrue, IfErr, List, OnOk};
+ghost use Rattle.pj_feed.specs.Feeds.{AreSameFeeds, FeedState};
+ghost use Rattle.pj_script.specs.Reading.{AreStepsOf};
+ghost use Rattle.pj_replay.specs.Playing.{IsReady, stage};
+ghost use Rattle.pj_replay.specs.Plays.{EndsSteps, HasPlayed, HasStopped, StopsReplay, StopsSteps, failed_behind, is_over, left_of};
+ghost use Rattle.pj_replay.specs.Goes.{Replay};
+
+use crate::settling::drain;
+use crate::stepping::make_step;
+use crate::stops::ReplayStop;
+use pj_core::Stop;
+use pj_feed::Feeds;
+use pj_hand::Hand;
+use pj_io::{Sink, Source};
+use pj_report::WriteStop;
+use pj_run::{Gathered, RunStop};
+use pj_script::ScriptStep;
+use pj_value::List as Items;
+use std::alloc::Global;
+
+/// Makes the steps of a script one by one, each with its line, up to the first that is not enabled. What the hand hands out at drains
+/// is written, and handed on before a read.
+///
+/// At `Refused`, and where a stream's turn could not be made or an element went beyond a limit, exactly what was handed out until then
+/// is written first; where that fails, `WriteFailed` comes, or `Cut` behind a limit. Where memory is wanting nothing more is written.
+pub fn play<S: Source, K: Sink>(
+    alloc: Global,
+    hand: &mut Hand,
+    feeds: &mut Feeds<S>,
+    gathered: &mut Gathered,
+    steps: &[(u64, ScriptStep)],
+    text: &mut Items<u8>,
+    out: &mut K,
+) -> Result<(), ReplayStop>
+    requires ready { IsReady (stage hand.old feeds.old.feeds.items gathered.old (K.state out.old)) }
+    requires fits { AreStepsOf hand.old.core.plan.nodes steps.now }
+    ensures ok { OnOk result (HasPlayed (stage hand.old feeds.old.feeds.items gathered.old (K.state out.old)) (stage hand.new feeds.new.feeds.items gathered.new (K.state out.new)) steps.now) }
+    ensures err { IfErr result (λ stop. EndsSteps stop (stage hand.old feeds.old.feeds.items gathered.old (K.state out.old)) feeds.new.feeds.items (K.state out.new) steps.now) }
+    ensures at { feeds.new.at ≡ feeds.old.at }
+    ensures same { AreSameFeeds feeds.old.feeds.items feeds.new.feeds.items }
+    ensures told { IsTrue (K.state out.new).told → IsTrue (K.state out.old).told }
+    ensures later { (K.state out.old).faults ≤ (K.state out.new).faults }
+{
+    match play_steps(alloc, hand, feeds, gathered, steps, text, out) {
+        Ok(()) => Ok(()),
+        Err(stop) => Err(leave(alloc, hand, gathered, stop, text, out)),
+    }
+}
+
+// Writes what was handed out until a stop, unless nothing more is to be written.
+fn leave<K: Sink>(
+    alloc: Global,
+    hand: &mut Hand,
+    gathered: &mut Gathered,
+    stop: ReplayStop,
+    text: &mut Items<u8>,
+    out: &mut K,
+) -> ReplayStop
+    ensures stops { (run : Replay) (feeds : List FeedState) → HasStopped stop run (stage hand.old feeds gathered.old (K.state out.old)) → StopsReplay result run feeds (K.state out.new) }
+    ensures told { IsTrue (K.state out.new).told → IsTrue (K.state out.old).told }
+    ensures later { (K.state out.old).faults ≤ (K.state out.new).faults }
+{
+    if is_over(stop) {
+        return stop;
+    }
+    let written = drain(alloc, hand, &mut gathered.results, text, out);
+    left_by(stop, written)
+}
+
+// Whether nothing more is to be written.
+fn is_over(stop: ReplayStop) -> bool
+    ensures { result ≡ is_over stop }
+{
+    match stop {
+        ReplayStop::Refused { .. } => false,
+        ReplayStop::Run { stop } => match stop {
+            RunStop::ReadFault { .. } => false,
+            RunStop::TooLarge { .. } => false,
+            RunStop::Limit { .. } => false,
+            RunStop::WriteFailed => true,
+            RunStop::NoMemory => true,
+            RunStop::Cut { .. } => true,
+        },
+    }
+}
+
+// A stop behind which what was handed out until then was written or not.
+fn left_by(stop: ReplayStop, written: Result<(), WriteStop>) -> ReplayStop
+    ensures { result ≡ left_of stop written }
+{
+    match written {
+        Ok(()) => stop,
+        Err(WriteStop::NoMemory) => ReplayStop::Run {
+            stop: RunStop::NoMemory,
+        },
+        Err(WriteStop::Failed) => ReplayStop::Run {
+            stop: failed_behind(stop),
+        },
+    }
+}
+
+// The output failed behind a stop.
+fn failed_behind(stop: ReplayStop) -> RunStop
+    ensures { result ≡ failed_behind stop }
+{
+    match stop {
+        ReplayStop::Refused { .. } => RunStop::WriteFailed,
+        ReplayStop::Run { stop } => match stop {
+            RunStop::ReadFault { .. } => RunStop::WriteFailed,
+            RunStop::TooLarge { .. } => RunStop::WriteFailed,
+            RunStop::Limit { node } => RunStop::Cut {
+                stop: Stop::Limit { node },
+            },
+            RunStop::WriteFailed => RunStop::WriteFailed,
+            RunStop::NoMemory => RunStop::WriteFailed,
+            RunStop::Cut { .. } => RunStop::WriteFailed,
+        },
+    }
+}
+
+// Makes these steps one by one. What is not drained stays so at a stop.
+fn play_steps<S: Source, K: Sink>(
+    alloc: Global,
+    hand: &mut Hand,
+    feeds: &mut Feeds<S>,
+    gathered: &mut Gathered,
+    steps: &[(u64, ScriptStep)],
+    text: &mut Items<u8>,
+    out: &mut K,
+) -> Result<(), ReplayStop>
+    requires ready { IsReady (stage hand.old feeds.old.feeds.items gathered.old (K.state out.old)) }
+    requires fits { AreStepsOf hand.old.core.plan.nodes steps.now }
+    ensures ok { OnOk result (HasPlayed (stage hand.old feeds.old.feeds.items gathered.old (K.state out.old)) (stage hand.new feeds.new.feeds.items gathered.new (K.state out.new)) steps.now) }
+    ensures err { IfErr result (λ stop. StopsSteps stop (stage hand.old feeds.old.feeds.items gathered.old (K.state out.old)) (stage hand.new feeds.new.feeds.items gathered.new (K.state out.new)) steps.now) }
+    ensures at { feeds.new.at ≡ feeds.old.at }
+    ensures same { AreSameFeeds feeds.old.feeds.items feeds.new.feeds.items }
+    ensures told { IsTrue (K.state out.new).told → IsTrue (K.state out.old).told }
+    ensures later { (K.state out.old).faults ≤ (K.state out.new).faults }
+{
+    'steps: for item in steps {
+        let (line, step) = *item;
+        match make_step(alloc, hand, feeds, gathered, step, text, out) {
+            Ok(true) => {}
+            Ok(false) => return Err(ReplayStop::Refused { line }),
+            Err(stop) => return Err(ReplayStop::Run { stop }),
+        }
+    }
+    Ok(())
+}
