@@ -21,6 +21,7 @@ use std::alloc::Global;
 /// kind (`WrongKind`). It never answers `TooLong` or `Closed`, which are no matter of one line alone. The line has fewer than 2^32 bytes.
 ///
 /// The law `reading_is_exact` has the grammar. `NoMemory` comes only where memory could not be had.
+#[inline(always)]
 pub fn read_element(alloc: Global, schema: &Schema, line: &[u8]) -> Result<Read, NoMemory>
     requires { length line.now < 2 ^ 32 }
     ensures { IfOk result (λ read. read ≡ reading_of schema.now line.now) }

@@ -41,6 +41,7 @@ pub(crate) fn none_seen(alloc: Global, arity: u32) -> Result<Seen, NoMemory>
 
 // Judges one line more, which has the next number. It gives no step where the line is skipped. On a refusal nothing of the
 // line is kept.
+#[inline(always)]
 pub(crate) fn judge(alloc: Global, read: Read, seen: &mut Seen) -> Result<Option<Step>, NoMemory>
     requires room { HasRoom seen.old.line seen.old.tally }
     requires rises { IsAbove (seen.old.line + 1) seen.old.store.kept }

@@ -60,6 +60,7 @@ impl LineBuf {
 
     /// Whether the next line that is not skipped stands in what is buffered, up to its line feed, or the end was read or a stop
     /// answered: then no call of `next_line` reads before such a line, the end or the stop is given.
+    #[inline(always)]
     pub fn holds_line(&self) -> bool
         ensures { result ≡ line_is_held self.now }
     {

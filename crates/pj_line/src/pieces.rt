@@ -55,6 +55,7 @@ impl PieceBuf {
     }
 
     // Whether a stop was answered, the end was read, or a line that is not skipped is held up to its line feed.
+    #[inline(always)]
     pub(crate) fn holds_line(&self) -> bool
         ensures { result ≡ line_is_held (buffered self.now) }
     {
