@@ -16,7 +16,8 @@ use Rattle.pj_laws.specs.Climb.{StandBehind, IsTree, node_hands, stepped, coming
 use Rattle.pj_laws.specs.ClimbLimits.{begun_by, begun_where}
 use Rattle.pj_events.specs.Punctuations.{puncts_answers, puncts_from, puncts_lists}
 use Rattle.pj_laws.specs.HistoryLaws.{AllAreCertified, closed_list, closed_lists}
-use Rattle.pj_laws.specs.Reaching.{counted_in, elements_to, LimitsTell}
+use Rattle.pj_events.specs.Limits.{ReachesLimit}
+use Rattle.pj_laws.specs.Reaching.{counted_in, elements_to, IsCounted, LimitsTell}
 use Rattle.pj_laws.proofs.Glue.{hands-append}
 use Rattle.pj_laws.proofs.Answers.{map-twice}
 use Rattle.pj_join_laws.proofs.Upto.{map-upto}
@@ -351,17 +352,16 @@ module _ (plan : List Node) (planned : ArePlanned [] plan) (h : List Entry) (leg
       arrived-long plan h n
       ∙ nodes-count (get_or plan n nowhere).inputs (λ m i. let lt = before-at 0 plan n m behind i in omega (arith, lt))
 
--- ---- the run on one thread
+-- ---- complete histories
 
-pub limits-tell : (plan : List Node) → ArePlanned [] plan → IsTree plan → 0 < length plan → AllAreCertified plan → LimitsTell plan
-limits-tell plan planned tree some certs lists accepted limit node r = (
+-- where a complete history goes beyond a limit, it does so at a join or a group, and more elements come to that in all
+pub complete-limits-tell : (plan : List Node) → ArePlanned [] plan → IsTree plan → (h : List Entry) → IsLegal plan h → IsComplete plan h → (limit node : ℕ) → ReachesLimit limit plan h node
+    → IsCounted plan node × (limit < elements_to plan (lists_of plan h) (puncts_lists plan h) node)
+complete-limits-tell plan planned tree h legal complete limit node r = (
   sym counted ∙ o.counted,
   omega (arith, below, all),
 )
   where
-    h : List Entry
-    h = one_thread_of true plan lists
-
     o : IsReachedBy limit plan r.front r.next.event node
     o = reached-by limit plan tree r.front r.next.event node r.beyond
 
@@ -380,13 +380,25 @@ limits-tell plan planned tree some certs lists accepted limit node r = (
         let many = o.many in
         omega (arith, parts, front, long, next, many)
 
+    all : length (arrivals_at plan h node) ≡ elements_to plan (lists_of plan h) (puncts_lists plan h) node
+    all = total plan planned h legal complete tree.behind node
+
+-- ---- the run on one thread
+
+pub limits-tell : (plan : List Node) → ArePlanned [] plan → IsTree plan → 0 < length plan → AllAreCertified plan → LimitsTell plan
+limits-tell plan planned tree some certs lists accepted limit node r = (t.0, subst (λ (n : ℕ). limit < n) same t.1)
+  where
+    h : List Entry
+    h = one_thread_of true plan lists
+
+    t : IsCounted plan node × (limit < elements_to plan (lists_of plan h) (puncts_lists plan h) node)
+    t = complete-limits-tell plan planned tree h (swept-whole plan planned certs lists accepted).legal (swept-complete plan planned some certs lists accepted) limit node r
+
     arrived : puncts_lists plan h ≡ map puncts_of (closed_lists plan lists)
     arrived =
         map-upto (λ s. puncts_of (elements_of s h)) (λ s. puncts_of (closed_list plan lists s)) 0 (length (streams_of plan))
         (λ s l. ap puncts_of ((swept-whole plan planned certs lists accepted).elements s (omega (arith, l))))
         ∙ sym (map-twice puncts_of (closed_list plan lists) (upto_from 0 (length (streams_of plan))))
 
-    all : length (arrivals_at plan h node) ≡ elements_to plan (map rows_of lists) (map puncts_of (closed_lists plan lists)) node
-    all =
-        total plan planned h (swept-whole plan planned certs lists accepted).legal (swept-complete plan planned some certs lists accepted) tree.behind node
-        ∙ ap₂ (λ (rows : List (List (List Value))) (puncts : List (List (List Pattern))). elements_to plan rows puncts node) (lists-are true plan planned (λ e. certs) lists accepted) arrived
+    same : elements_to plan (lists_of plan h) (puncts_lists plan h) node ≡ elements_to plan (map rows_of lists) (map puncts_of (closed_lists plan lists)) node
+    same = ap₂ (λ (rows : List (List (List Value))) (puncts : List (List (List Pattern))). elements_to plan rows puncts node) (lists-are true plan planned (λ e. certs) lists accepted) arrived
