@@ -7,9 +7,11 @@ use Rattle.pj_events.specs.declared.events.Entry.{Entry}
 use Rattle.pj_events.specs.Join.{puncts_of, rows_of}
 use Rattle.pj_events.specs.Plan.{Node}
 use Rattle.pj_events.specs.History.{IsComplete, IsLegal, IsOn, reached_of, streams_of}
+use Rattle.pj_events.specs.Limits.{ReachesLimit}
 use Rattle.pj_events.specs.Outcomes.{answer_of, elements_of, elements_out, outputs_of, rows_out}
 use Rattle.pj_events.specs.Punctuations.{puncts_answer}
 use Rattle.pj_laws.specs.HistoryLaws.{AreAcceptedLists, closed_list, closed_lists}
+use Rattle.pj_laws.specs.Reaching.{IsCounted, elements_to}
 use Rattle.pj_script.specs.declared.step.ScriptStep.{ScriptStep}
 use Rattle.pj_script.specs.Playing.{AllFit, played_of, scripted_of}
 
@@ -66,3 +68,10 @@ abbrev pub ScriptedIsLawful : List Node → Type 0
 ScriptedIsLawful plan =
     (lists : List (List Element)) (steps : List (ℕ × ScriptStep)) → MayPlay plan lists steps → (trace : Bool)
     → IsLawful (elements_out (outputs_of trace plan (scripted_of plan lists steps)))
+
+-- Where the history goes beyond a limit, it does so at a join or a group, and more elements come to that in all, also where a step is
+-- not enabled
+abbrev pub ScriptedLimitsTell : List Node → Type 0
+ScriptedLimitsTell plan =
+    (lists : List (List Element)) (steps : List (ℕ × ScriptStep)) → MayPlay plan lists steps → (limit node : ℕ) → ReachesLimit limit plan (scripted_of plan lists steps) node
+    → IsCounted plan node × (limit < elements_to plan (map rows_of lists) (map puncts_of (closed_lists plan lists)) node)
