@@ -1,5 +1,5 @@
 -- Giving all that is under way, one probe after the other.
-use Rattle.std.proofs.Common.{◌<◌, List, [], ◌∷◌, ◌++◌, ◌≡◌, ◌⊎◌, None, length, refl, sym, ap, ◌∙◌, subst, inl, inr, arith, append_assoc}
+use Rattle.std.proofs.Common.{◌<◌, true, List, [], ◌∷◌, ◌++◌, ◌≡◌, ◌⊎◌, None, length, refl, sym, ap, ◌∙◌, subst, inl, inr, arith, append_assoc}
 use Rattle.std.proofs.lemmas.List.{append-nil}
 use Rattle.pj_value.specs.Lists.{In}
 use Rattle.pj_events.specs.declared.events.Entry.{Entry}
@@ -14,12 +14,12 @@ use Rattle.pj_core.specs.Cores.{nodes_in}
 use Rattle.pj_core.specs.Plans.{RunPlan}
 use Rattle.pj_core.proofs.Making.{stops-at-as, within-as}
 use Rattle.pj_hand.specs.Hands.{HandState, HandStandsFor, StandsForOne}
-use Rattle.pj_hand.specs.Held.{HoldsLess, StandsAt}
 use Rattle.pj_hand.specs.Settling.{HandMakes, HandStopsMaking, LacksMemoryAmong, RefusesMaking, giving}
-use Rattle.pj_hand.specs.Steps.{GivesAt, LacksMemory, StopsGiveAt}
-use Rattle.pj_hand.proofs.InOrder.{stood-in}
+use Rattle.pj_hand.specs.Held.{without}
+use Rattle.pj_hand.specs.Steps.{GivesFirst, GivesProbe, LacksMemory, StopsGive, StopsGiveFirst}
+use Rattle.pj_hand.proofs.InOrder.{first-found}
 use Rattle.pj_hand.proofs.Keys.{give_of, gives-are, gives_of, key_of}
-use Rattle.pj_hand.proofs.Standing.{given-stands}
+use Rattle.pj_hand.proofs.Standing.{found-in, given-stands}
 
 -- the first of the gives are made, and the others are those of the probes that are still held
 pub record GivesTo (old now : HandState) (history : List Entry) : Type 0 where
@@ -50,28 +50,13 @@ gives-begin old sound on one = record {
 pub one-now : (old now : HandState) → GivesSoFar old now → StandsForOne now
 one-now old now s = let g = s.goes s.one.0 s.one.1 in (s.one.0 ++ g.done, g.stands)
 
--- the probe at the first place is the first
-first-is : (probes : List Found) (p : Found) → (s : StandsAt probes 0 p) → probes ≡ p ∷ s.back
-first-is probes p s = s.parts ∙ go s.front s.place
-  where
-    go : (front : List Found) → length front ≡ 0 → front ++ p ∷ s.back ≡ p ∷ s.back
-    go [] e = refl
-    go (x ∷ front) e = absurd (omega (arith, e))
-
-left-is : (probes : List Found) (p : Found) (left : List Found) → (l : HoldsLess probes 0 p left) → left ≡ l.stood.back
-left-is probes p left l = l.left ∙ go l.stood.front l.stood.place
-  where
-    go : (front : List Found) → length front ≡ 0 → front ++ l.stood.back ≡ l.stood.back
-    go [] e = refl
-    go (x ∷ front) e = absurd (omega (arith, e))
-
 module _ (old now next : HandState) (s : GivesSoFar old now) where
   now-sound : IsSoundPlan now.core.plan.nodes
   now-sound = subst (λ (p : RunPlan). IsSoundPlan p.nodes) (sym s.plan) s.sound
 
   -- one more
-  pub gives-more : GivesAt now next 0 → GivesSoFar old next
-  gives-more g = record {
+  pub gives-more : GivesFirst true now next → GivesSoFar old next
+  gives-more f = record {
     sound = s.sound;
     on = (s.on.0, g.given.on.1);
     plan = g.given.plan ∙ s.plan;
@@ -81,18 +66,24 @@ module _ (old now next : HandState) (s : GivesSoFar old now) where
         let t = s.goes h H in
         let W = t.stands.held s.on.1 in
         let e = give_of (key_of g.probe) in
-        let beyond = g.given.within (h ++ t.done) t.stands.stands (W.finds g.probe (stood-in now.taken 0 g.probe next.taken g.less)) in
+        let beyond = g.given.within (h ++ t.done) t.stands.stands (W.finds g.probe (found-in now.taken f.0.0 f.0.1 g.probe g.stood)) in
         let one : StaysWithin now.core.limit (nodes_in now.core) (h ++ t.done) (e ∷ []) = (beyond, tt) in
         record {
           done = t.done ++ e ∷ [];
           parts = t.parts
-              ∙ ap (λ (ps : List Found). t.done ++ gives_of ps) (first-is now.taken g.probe g.less.stood)
-              ∙ sym (append_assoc t.done (e ∷ []) (gives_of g.less.stood.back))
-              ∙ ap (λ (ps : List Found). (t.done ++ e ∷ []) ++ gives_of ps) (sym (left-is now.taken g.probe next.taken g.less));
+              ∙ ap (λ (ps : List Found). t.done ++ gives_of ps) first.1
+              ∙ sym (append_assoc t.done (e ∷ []) (gives_of first.0))
+              ∙ ap (λ (ps : List Found). (t.done ++ e ∷ []) ++ gives_of ps) (sym (g.left ∙ first.2));
           within = within-append old.core.limit (nodes_in old.core) h t.done (e ∷ []) t.within (within-as old.core now.core (h ++ t.done) (e ∷ []) s.plan s.limit one);
-          stands = subst (HandStandsFor next) (append_assoc h t.done (e ∷ [])) (given-stands now next 0 now-sound g (h ++ t.done) t.stands);
+          stands = subst (HandStandsFor next) (append_assoc h t.done (e ∷ [])) (given-stands now next f.0.0 f.0.1 now-sound g (h ++ t.done) t.stands);
         };
   }
+    where
+      g : GivesProbe now next f.0.0 f.0.1
+      g = f.2
+
+      first : (back : List Found) × (now.taken ≡ g.probe ∷ back) × (without now.taken f.0.0 f.0.1 ≡ back)
+      first = first-found now.taken f.0 g.probe f.1 g.stood
 
   -- there is none left
   pub gives-end : (now.taken ≡ []) × (next ≡ now) → HandMakes old next (giving old)
@@ -122,30 +113,35 @@ module _ (old now next : HandState) (s : GivesSoFar old now) where
   stops-at h p es (Limit node) H i c = c h H.stands ((H.held s.on.1).finds p i)
   stops-at h p es NoMemory H i c = tt
 
-  ends : (stop : Stop) → StopsGiveAt now next 0 stop → HandStopsMaking old next (giving old) stop
-  ends stop z = record {
+  ends : (stop : Stop) → StopsGiveFirst now next stop → HandStopsMaking old next (giving old) stop
+  ends stop f = record {
     plan = z.stops.notes.plan ∙ s.plan;
     limit = z.stops.notes.limit ∙ s.limit;
     stopped = z.stops.stopped;
     stops = λ h H.
         let t = s.goes h H in
         let e = give_of (key_of z.probe) in
-        let first = first-is now.taken z.probe z.stood in
         record {
           front = t.done;
-          back = e ∷ gives_of z.stood.back;
-          parts = t.parts ∙ ap (λ (ps : List Found). t.done ++ gives_of ps) first;
+          back = e ∷ gives_of first.0;
+          parts = t.parts ∙ ap (λ (ps : List Found). t.done ++ gives_of ps) first.1;
           within = t.within;
-          stops = stops-at-as old.core now.core (h ++ t.done) (e ∷ gives_of z.stood.back) stop s.plan s.limit
-              (stops-at (h ++ t.done) z.probe (gives_of z.stood.back) stop t.stands (subst (λ (ps : List Found). In z.probe ps) (sym first) (inl refl)) z.cause);
+          stops = stops-at-as old.core now.core (h ++ t.done) (e ∷ gives_of first.0) stop s.plan s.limit
+              (stops-at (h ++ t.done) z.probe (gives_of first.0) stop t.stands (found-in now.taken f.0.0 f.0.1 z.probe z.stood) z.cause);
           stands = z.stops.notes.stands (h ++ t.done) t.stands.stands;
         };
   }
+    where
+      z : StopsGive now next f.0.0 f.0.1 stop
+      z = f.2
 
-  pub gives-stop : (stop : Stop) → LacksMemory now next stop ⊎ StopsGiveAt now next 0 stop → RefusesMaking old next (giving old) stop
+      first : (back : List Found) × (now.taken ≡ z.probe ∷ back) × (without now.taken f.0.0 f.0.1 ≡ back)
+      first = first-found now.taken f.0 z.probe f.1 z.stood
+
+  pub gives-stop : (stop : Stop) → LacksMemory now next stop ⊎ StopsGiveFirst now next stop → RefusesMaking old next (giving old) stop
   gives-stop stop (inl l) = inr (lacks stop l)
   gives-stop stop (inr z) = inl (ends stop z)
 
 -- fewer probes are held
-pub fewer : (now next : HandState) → GivesAt now next 0 → length next.taken < length now.taken
-fewer now next g = let a = ap length (first-is now.taken g.probe g.less.stood) in let b = ap length (left-is now.taken g.probe next.taken g.less) in omega (arith, a, b)
+pub fewer : (now next : HandState) → GivesFirst true now next → length next.taken < length now.taken
+fewer now next f = let g = f.2 in let first = first-found now.taken f.0 g.probe f.1 g.stood in let a = ap length first.1 in let b = ap length (g.left ∙ first.2) in omega (arith, a, b)

@@ -1,16 +1,16 @@
 -- Probes that are held: one more at its place, one less, and which are held then.
-use Rattle.std.proofs.Common.{ℕ, zero, suc, ◌<◌, ◌≤◌, Bool, true, false, not, ◌&&◌, ◌||◌, List, [], ◌∷◌, ◌++◌, ◌≡◌, ◌⊎◌, take, drop, length, get_or, eqb, ltb, refl, sym, ap, ◌∙◌, subst, inl, inr, arith}
-use Rattle.std.proofs.lemmas.Bool.{and_from, and_parts, both_ways, cases_lt, cases_order, eq-eqb, eqb-true, false_from_ne_true, lt-ltb, ltb-true, or_cases, or_left, or_right}
+use Rattle.std.proofs.Common.{ℕ, ◌<◌, Bool, true, false, cond, not, ◌&&◌, ◌||◌, List, [], ◌∷◌, ◌++◌, ◌≡◌, ◌⊎◌, Some, None, eqb, ltb, nat_cmp, refl, sym, ap, ◌∙◌, subst, inl, inr, arith}
+use Rattle.std.specs.Ordering.{match_ordering, ordering_then}
+use Rattle.std.specs.declared.cmp.Ordering.{Ordering}
+use Rattle.std.specs.declared.cmp.Ordering.TheVariants.{Less, Equal, Greater}
+use Rattle.std.proofs.lemmas.Bool.{and_from, and_parts, both_ways, eq-eqb, eqb-true, false_from_ne_true, lt-ltb, ltb-true, or_cases, or_left, or_right}
+use Rattle.std.proofs.lemmas.Bool.Decides.{nat_tests}
 use Rattle.std.proofs.lemmas.List.Folds.{list_any-append}
-use Rattle.std.proofs.lemmas.List.{get_or_at, length-take-le, take-append-drop}
-use Rattle.std.proofs.Math.ListN.{drop_of_length-le}
-use Rattle.std.proofs.Math.Seq.{drop-cons}
-use Rattle.std.specs.List.{AllWithin, insert, remove}
-use Rattle.std.specs.List.Sorted.{IsPartitionPoint, IsPartitionedBy}
+use Rattle.std.proofs.lemmas.Map.Lookups.{exact_pairs, exact_unsigned}
 use Rattle.pj_value.specs.Lists.{In}
-use Rattle.pj_value.proofs.Members.{In-append_cases, In-append_left, In-append_right, any_at, any_from, in-place}
+use Rattle.pj_value.proofs.Members.{In-append_cases, In-append_left, In-append_right, any_at, any_from}
 use Rattle.pj_probe.specs.declared.probe.Found.{Found}
-use Rattle.pj_hand.specs.Held.{AreInOrder, HoldsLess, HoldsMore, StandsAt, holds, is_before, is_of}
+use Rattle.pj_hand.specs.Held.{AreInOrder, first_place, found_at, holds, is_before, is_of, place_cmp, place_of, put_in, without}
 
 -- ---- the order
 
@@ -41,15 +41,30 @@ through a b c (inl l) (inr q) = inl (let e = q.0 in omega (arith, l, e))
 through a b c (inr p) (inl k) = inl (let e = p.0 in omega (arith, e, k))
 through a b c (inr p) (inr q) = inr (p.0 ∙ q.0, (let l = p.1 in let k = q.1 in omega (arith, l, k)))
 
--- a probe that does not stand before another has its ticket, or stands behind it
-behind : (a b : Found) → (Precedes a b → ⊥) → ((a.join ≡ b.join) → (a.ticket ≡ b.ticket) → ⊥) → Precedes b a
-behind a b n d = elim (cases_order a.join b.join) [
-  | inl e ↦ elim (cases_order a.ticket b.ticket) [
-    | inl q ↦ absurd (d e q)
-    | inr o ↦ elim o [ inl l ↦ absurd (n (inr (e, l))) | inr l ↦ inr (sym e, l) ]
-  ]
-  | inr o ↦ elim o [ inl l ↦ absurd (n (inl l)) | inr l ↦ inl l ]
-]
+-- ---- places compared
+
+compared : (a b : ℕ) → (nat_cmp a b ≡ Less → a < b) × (nat_cmp a b ≡ Greater → b < a)
+compared a b = ((λ e. grind (arith, nat_tests)), (λ e. grind (arith, nat_tests)))
+
+-- a place that is compared as less stands before
+pub less-precedes : (a b : Found) → place_cmp (place_of a) (place_of b) ≡ Less → Precedes a b
+less-precedes a b e = go (nat_cmp a.join b.join) refl e
+  where
+    go : (o : Ordering) → nat_cmp a.join b.join ≡ o → ordering_then o (nat_cmp a.ticket b.ticket) ≡ Less → Precedes a b
+    go Less q e = inl ((compared a.join b.join).0 q)
+    go Equal q e = inr (exact_unsigned a.join b.join q, (compared a.ticket b.ticket).0 e)
+    go Greater q e = absurd (cc)
+
+pub greater-precedes : (a b : Found) → place_cmp (place_of a) (place_of b) ≡ Greater → Precedes b a
+greater-precedes a b e = go (nat_cmp a.join b.join) refl e
+  where
+    go : (o : Ordering) → nat_cmp a.join b.join ≡ o → ordering_then o (nat_cmp a.ticket b.ticket) ≡ Greater → Precedes b a
+    go Less q e = absurd (cc)
+    go Equal q e = inr (sym (exact_unsigned a.join b.join q), (compared a.ticket b.ticket).1 e)
+    go Greater q e = inl ((compared a.join b.join).1 q)
+
+pub equal-same : (x y : ℕ × ℕ) → place_cmp x y ≡ Equal → x ≡ y
+equal-same x y e = exact_pairs nat_cmp nat_cmp exact_unsigned exact_unsigned x y e
 
 -- ---- which are held
 
@@ -109,6 +124,48 @@ holds-with front probe back join ticket =
 
 -- ---- one more
 
+-- the probe was put between those before it and those behind it
+pub record HoldsMore (old : List Found) (probe : Found) (new : List Found) : Type 0 where
+  pub front : List Found
+  pub back : List Found
+  pub before : old ≡ front ++ back
+  pub behind : new ≡ front ++ probe ∷ back
+  pub first : (p : Found) → In p front → Precedes p probe
+  pub last : (p : Found) → In p back → Precedes probe p
+
+pub puts-in : (old : List Found) (probe : Found) → AreInOrder old → holds old probe.join probe.ticket ≡ false → HoldsMore old probe (put_in probe old)
+puts-in [] probe o none = record { front = []; back = []; before = refl; behind = refl; first = λ p i. absurd i; last = λ p i. absurd i }
+puts-in (other ∷ old) probe o none = go (place_cmp (place_of probe) (place_of other)) refl (puts-in old probe o.1 rest)
+  where
+    rest : holds old probe.join probe.ticket ≡ false
+    rest = false_from_ne_true (holds old probe.join probe.ticket) (λ t. both_ways (holds (other ∷ old) probe.join probe.ticket) none (or_right (is_of probe.join probe.ticket other) (holds old probe.join probe.ticket) t))
+
+    go : (r : Ordering) → place_cmp (place_of probe) (place_of other) ≡ r → HoldsMore old probe (put_in probe old)
+        → HoldsMore (other ∷ old) probe (match_ordering r (probe ∷ other ∷ old) (probe ∷ old) (other ∷ put_in probe old))
+    go Less e ih = record {
+      front = [];
+      back = other ∷ old;
+      before = refl;
+      behind = refl;
+      first = λ p i. absurd i;
+      last = λ p i. elim i [
+        | inl k ↦ subst (Precedes probe) k (less-precedes probe other e)
+        | inr k ↦ through probe other p (less-precedes probe other e) (precedes other p (o.0 p k))
+      ];
+    }
+    go Equal e ih =
+        let q = equal-same (place_of probe) (place_of other) e in
+        absurd (both_ways (holds (other ∷ old) probe.join probe.ticket) none
+        (or_left (is_of probe.join probe.ticket other) (holds old probe.join probe.ticket) (key-from probe.join probe.ticket other (sym (ap (λ (x : ℕ × ℕ). x.0) q)) (sym (ap (λ (x : ℕ × ℕ). x.1) q)))))
+    go Greater e ih = record {
+      front = other ∷ ih.front;
+      back = ih.back;
+      before = ap (λ (ps : List Found). other ∷ ps) ih.before;
+      behind = ap (λ (ps : List Found). other ∷ ps) ih.behind;
+      first = λ p i. elim i [ inl k ↦ subst (λ (y : Found). Precedes y probe) k (greater-precedes probe other e) | inr k ↦ ih.first p k ];
+      last = ih.last;
+    }
+
 module _ (old : List Found) (probe : Found) (new : List Found) (more : HoldsMore old probe new) where
   pub holds-more : (join ticket : ℕ) → holds new join ticket ≡ (is_of join ticket probe || holds old join ticket)
   holds-more join ticket =
@@ -122,39 +179,89 @@ module _ (old : List Found) (probe : Found) (new : List Found) (more : HoldsMore
     | inr k ↦ elim k [ inl e ↦ inl e | inr m ↦ inr (subst (λ (ps : List Found). In p ps) (sym more.before) (In-append_right p more.front more.back m)) ]
   ]
 
-  pub order-more : AreInOrder old → holds old probe.join probe.ticket ≡ false → AreInOrder new
-  order-more o none = subst AreInOrder (sym more.behind) (order-with more.front probe more.back parts (λ p i. precedes p probe (place.0 p i)) (λ p i. behind p probe (λ r. place.1 p i (tested p probe r)) (free p i)))
-    where
-      parts : AreInOrder (more.front ++ more.back)
-      parts = subst AreInOrder more.before o
-
-      place : ((p : Found) → In p more.front → is_before probe.join probe.ticket p ≡ true) × ((p : Found) → In p more.back → is_before probe.join probe.ticket p ≡ true → ⊥)
-      place = more.place parts
-
-      free : (p : Found) → In p more.back → p.join ≡ probe.join → p.ticket ≡ probe.ticket → ⊥
-      free p i j t = both_ways (holds old probe.join probe.ticket) none
-          (any_from (is_of probe.join probe.ticket) old p (subst (λ (ps : List Found). In p ps) (sym more.before) (In-append_right p more.front more.back i)) (key-from probe.join probe.ticket p j t))
+  pub order-more : AreInOrder old → AreInOrder new
+  order-more o = subst AreInOrder (sym more.behind) (order-with more.front probe more.back (subst AreInOrder more.before o) more.first more.last)
 
 -- ---- one less
 
-module _ (old : List Found) (at : ℕ) (probe : Found) (new : List Found) (less : HoldsLess old at probe new) where
-  abbrev front : List Found
-  front = less.stood.front
+-- the probe was taken out
+pub record HoldsLess (old : List Found) (probe : Found) (new : List Found) : Type 0 where
+  pub front : List Found
+  pub back : List Found
+  pub parts : old ≡ front ++ probe ∷ back
+  pub left : new ≡ front ++ back
 
-  abbrev back : List Found
-  back = less.stood.back
+none-is : {A : Type 0} (x : A) → None ≡ Some x → ⊥
+none-is x e = cc
 
+some-is : (x y : Found) → Some x ≡ Some y → x ≡ y
+some-is x y e = cc
+
+pub takes-out : (old : List Found) (join ticket : ℕ) (probe : Found) → found_at old join ticket ≡ Some probe → HoldsLess old probe (without old join ticket)
+takes-out [] join ticket probe e = absurd (none-is probe e)
+takes-out (other ∷ old) join ticket probe e = go (is_of join ticket other) e (takes-out old join ticket probe)
+  where
+    go : (b : Bool) → cond b (Some other) (found_at old join ticket) ≡ Some probe → (found_at old join ticket ≡ Some probe → HoldsLess old probe (without old join ticket))
+        → HoldsLess (other ∷ old) probe (cond b old (other ∷ without old join ticket))
+    go true e ih = record { front = []; back = old; parts = ap (λ (p : Found). p ∷ old) (some-is other probe e); left = refl }
+    go false e ih = let r = ih e in record { front = other ∷ r.front; back = r.back; parts = ap (λ (ps : List Found). other ∷ ps) r.parts; left = ap (λ (ps : List Found). other ∷ ps) r.left }
+
+-- a probe that is found is that of the ticket
+pub found-is : (probes : List Found) (join ticket : ℕ) (probe : Found) → found_at probes join ticket ≡ Some probe → is_of join ticket probe ≡ true
+found-is [] join ticket probe e = absurd (none-is probe e)
+found-is (other ∷ probes) join ticket probe e = go (is_of join ticket other) refl e (found-is probes join ticket probe)
+  where
+    go : (b : Bool) → is_of join ticket other ≡ b → cond b (Some other) (found_at probes join ticket) ≡ Some probe → (found_at probes join ticket ≡ Some probe → is_of join ticket probe ≡ true) → is_of join ticket probe ≡ true
+    go true t e ih = subst (λ (p : Found). is_of join ticket p ≡ true) (some-is other probe e) t
+    go false t e ih = ih e
+
+-- where none is found, none is held
+pub found-none : (probes : List Found) (join ticket : ℕ) → found_at probes join ticket ≡ None → holds probes join ticket ≡ false
+found-none [] join ticket e = refl
+found-none (other ∷ probes) join ticket e = go (is_of join ticket other) e (found-none probes join ticket)
+  where
+    go : (b : Bool) → cond b (Some other) (found_at probes join ticket) ≡ None → (found_at probes join ticket ≡ None → holds probes join ticket ≡ false) → (b || holds probes join ticket) ≡ false
+    go true e ih = absurd (none-is other (sym e))
+    go false e ih = ih e
+
+-- the probe at the first place is the first
+pub first-found : (probes : List Found) (place : ℕ × ℕ) (probe : Found) → first_place probes ≡ Some place → found_at probes place.0 place.1 ≡ Some probe
+    → (back : List Found) × (probes ≡ probe ∷ back) × (without probes place.0 place.1 ≡ back)
+first-found [] place probe f e = absurd (none-is place f)
+first-found (other ∷ probes) place probe f e = go (is_of place.0 place.1 other) refl e
+  where
+    at : place_of other ≡ place
+    at = cc
+
+    go : (b : Bool) → is_of place.0 place.1 other ≡ b → cond b (Some other) (found_at probes place.0 place.1) ≡ Some probe
+        → (back : List Found) × (other ∷ probes ≡ probe ∷ back) × (cond b probes (other ∷ without probes place.0 place.1) ≡ back)
+    go true t e = (probes, ap (λ (p : Found). p ∷ probes) (some-is other probe e), refl)
+    go false t e = absurd (both_ways (is_of place.0 place.1 other) t (key-from place.0 place.1 other (ap (λ (x : ℕ × ℕ). x.0) at) (ap (λ (x : ℕ × ℕ). x.1) at)))
+
+-- and it is found there
+pub first-held : (probes : List Found) (place : ℕ × ℕ) → first_place probes ≡ Some place → found_at probes place.0 place.1 ≡ None → ⊥
+first-held [] place f e = absurd (none-is place f)
+first-held (other ∷ probes) place f e = go (is_of place.0 place.1 other) refl e
+  where
+    at : place_of other ≡ place
+    at = cc
+
+    go : (b : Bool) → is_of place.0 place.1 other ≡ b → cond b (Some other) (found_at probes place.0 place.1) ≡ None → ⊥
+    go true t e = absurd (none-is other (sym e))
+    go false t e = absurd (both_ways (is_of place.0 place.1 other) t (key-from place.0 place.1 other (ap (λ (x : ℕ × ℕ). x.0) at) (ap (λ (x : ℕ × ℕ). x.1) at)))
+
+module _ (old : List Found) (probe : Found) (new : List Found) (less : HoldsLess old probe new) where
   pub stood-in : In probe old
-  stood-in = subst (λ (ps : List Found). In probe ps) (sym less.stood.parts) (In-append_right probe front (probe ∷ back) (inl refl))
+  stood-in = subst (λ (ps : List Found). In probe ps) (sym less.parts) (In-append_right probe less.front (probe ∷ less.back) (inl refl))
 
   pub in-less : (p : Found) → In p new → In p old
-  in-less p i = subst (λ (ps : List Found). In p ps) (sym less.stood.parts) (elim (In-append_cases p front back (subst (λ (ps : List Found). In p ps) less.left i)) [
-    | inl k ↦ In-append_left p front (probe ∷ back) k
-    | inr k ↦ In-append_right p front (probe ∷ back) (inr k)
+  in-less p i = subst (λ (ps : List Found). In p ps) (sym less.parts) (elim (In-append_cases p less.front less.back (subst (λ (ps : List Found). In p ps) less.left i)) [
+    | inl k ↦ In-append_left p less.front (probe ∷ less.back) k
+    | inr k ↦ In-append_right p less.front (probe ∷ less.back) (inr k)
   ])
 
-  parts : AreInOrder old → ((p : Found) → In p front → Precedes p probe) × ((p : Found) → In p back → Precedes probe p) × AreInOrder (front ++ back)
-  parts o = order-parts front probe back (subst AreInOrder less.stood.parts o)
+  parts : AreInOrder old → ((p : Found) → In p less.front → Precedes p probe) × ((p : Found) → In p less.back → Precedes probe p) × AreInOrder (less.front ++ less.back)
+  parts o = order-parts less.front probe less.back (subst AreInOrder less.parts o)
 
   pub order-less : AreInOrder old → AreInOrder new
   order-less o = subst AreInOrder (sym less.left) (parts o).2
@@ -162,134 +269,20 @@ module _ (old : List Found) (at : ℕ) (probe : Found) (new : List Found) (less 
   pub holds-less : AreInOrder old → (join ticket : ℕ) → holds new join ticket ≡ (holds old join ticket && not (is_of join ticket probe))
   holds-less o join ticket =
       ap (λ (ps : List Found). holds ps join ticket) less.left
-      ∙ go (is_of join ticket probe) (holds (front ++ back) join ticket) refl refl
-      ∙ ap (λ (b : Bool). b && not (is_of join ticket probe)) (sym (holds-with front probe back join ticket) ∙ ap (λ (ps : List Found). holds ps join ticket) (sym less.stood.parts))
+      ∙ go (is_of join ticket probe) (holds (less.front ++ less.back) join ticket) refl refl
+      ∙ ap (λ (b : Bool). b && not (is_of join ticket probe)) (sym (holds-with less.front probe less.back join ticket) ∙ ap (λ (ps : List Found). holds ps join ticket) (sym less.parts))
     where
-      once : is_of join ticket probe ≡ true → holds (front ++ back) join ticket ≡ true → ⊥
+      once : is_of join ticket probe ≡ true → holds (less.front ++ less.back) join ticket ≡ true → ⊥
       once k t =
-          let r = held-is (front ++ back) join ticket t in
+          let r = held-is (less.front ++ less.back) join ticket t in
           let q = key-is join ticket probe k in
-          elim (In-append_cases r.0 front back r.1) [
+          elim (In-append_cases r.0 less.front less.back r.1) [
             | inl i ↦ apart r.0 probe ((parts o).0 r.0 i) (r.2 ∙ sym q.0) (r.3 ∙ sym q.1)
             | inr i ↦ apart probe r.0 ((parts o).1 r.0 i) (q.0 ∙ sym r.2) (q.1 ∙ sym r.3)
           ]
 
-      go : (a b : Bool) → is_of join ticket probe ≡ a → holds (front ++ back) join ticket ≡ b → b ≡ ((a || b) && not a)
+      go : (a b : Bool) → is_of join ticket probe ≡ a → holds (less.front ++ less.back) join ticket ≡ b → b ≡ ((a || b) && not a)
       go true true k t = absurd (once k t)
       go true false k t = refl
       go false true k t = refl
       go false false k t = refl
-
--- ---- what a search tells
-
--- the tests of the front, and of the back
-front-tests : (p : Found → Bool) (probes : List Found) (n : ℕ) → AllWithin (λ y. p y ≡ true) probes 0 n → (x : Found) → In x (take n probes) → p x ≡ true
-front-tests p [] n a x i = absurd (none n i)
-  where
-    none : (m : ℕ) → In x (take m []) → ⊥
-    none zero k = k
-    none (suc m) k = k
-front-tests p (y ∷ probes) zero a x i = absurd i
-front-tests p (y ∷ probes) (suc n) a x (inl e) = subst (λ (z : Found). p z ≡ true) e (a 0 y (omega arith) (omega arith))
-front-tests p (y ∷ probes) (suc n) a x (inr i) = front-tests p probes n (λ k d le lt. a (suc k) d (omega arith) (omega (arith, lt))) x i
-
-back-tests : (p : Found → Bool) (probes : List Found) (n : ℕ) → AllWithin (λ y. p y ≡ false) probes n (length probes) → (x : Found) → In x (drop n probes) → p x ≡ false
-back-tests p [] n a x i = absurd (none n i)
-  where
-    none : (m : ℕ) → In x (drop m []) → ⊥
-    none zero k = k
-    none (suc m) k = k
-back-tests p (y ∷ probes) zero a x (inl e) = subst (λ (z : Found). p z ≡ false) e (a 0 y (omega arith) (omega arith))
-back-tests p (y ∷ probes) zero a x (inr i) = back-tests p probes 0 (λ k d le lt. a (suc k) d (omega arith) (omega (arith, lt))) x (from-zero probes i)
-  where
-    from-zero : (xs : List Found) → In x xs → In x (drop 0 xs)
-    from-zero xs k = k
-back-tests p (y ∷ probes) (suc n) a x i = back-tests p probes n (λ k d le lt. a (suc k) d (omega (arith, le)) (omega (arith, lt))) x i
-
--- where a search for a ticket of a join ends
-abbrev pub IsPoint : ℕ → ℕ → List Found → ℕ → Type 0
-IsPoint join ticket probes n = IsPartitionPoint (λ y. is_before join ticket y ≡ true) (λ y. is_before join ticket y ≡ false) probes n
-
--- probes in order can be searched
-pub searchable : (join ticket : ℕ) (probes : List Found) → AreInOrder probes → IsPartitionedBy (is_before join ticket) probes
-searchable join ticket [] o i j d le lt t = absurd (omega (arith, lt))
-searchable join ticket (x ∷ probes) o zero zero d le lt t = t
-searchable join ticket (x ∷ probes) o (suc i) zero d le lt t = absurd (omega (arith, le))
-searchable join ticket (x ∷ probes) o (suc i) (suc j) d le lt t = searchable join ticket probes o.1 i j d (omega (arith, le)) (omega (arith, lt)) t
-searchable join ticket (x ∷ probes) o zero (suc j) d le lt t =
-    let to : Found = record { join = join; ticket = ticket; rows = [] } in
-    let y = get_or probes j d in
-    tested x to (through x y to (precedes x y (o.0 y (in-place probes d j (omega (arith, lt))))) (precedes y to t))
-
--- the parts around a place
-parts-at : (probes : List Found) (n : ℕ) (d : Found) → n < length probes → probes ≡ take n probes ++ get_or probes n d ∷ drop (suc n) probes
-parts-at probes n d lt = sym (take-append-drop n probes) ∙ ap (λ (ps : List Found). take n probes ++ ps) (drop-cons probes n d lt)
-
--- the probe at a place
-pub stands-at : (probes : List Found) (n : ℕ) (d : Found) → n < length probes → StandsAt probes n (get_or probes n d)
-stands-at probes n d lt = record {
-  front = take n probes;
-  back = drop (suc n) probes;
-  parts = parts-at probes n d lt;
-  place = length-take-le n probes (omega (arith, lt));
-}
-
--- there is one probe at a place
-pub stands-same : (probes : List Found) (n : ℕ) (p q : Found) → StandsAt probes n p → StandsAt probes n q → p ≡ q
-stands-same probes n p q s t = sym (is p s) ∙ is q t
-  where
-    is : (x : Found) → StandsAt probes n x → get_or probes n p ≡ x
-    is x z = ap (λ (ps : List Found). get_or ps n p) z.parts ∙ get_or_at z.front x z.back p n z.place
-
-pub stands-as : (probes : List Found) (n : ℕ) (p q : Found) → n < length probes → p ≡ get_or probes n p → q ≡ p → StandsAt probes n q
-stands-as probes n p q lt e s = subst (StandsAt probes n) (sym (s ∙ e)) (stands-at probes n p lt)
-
--- what is put in where the search ends
-pub puts-in : (old new : List Found) (n : ℕ) (probe : Found) → n ≤ length old → (IsPartitionedBy (is_before probe.join probe.ticket) old → IsPoint probe.join probe.ticket old n) → new ≡ insert old n probe → HoldsMore old probe new
-puts-in old new n probe le ends e = record {
-  front = take n old;
-  back = drop n old;
-  before = sym (take-append-drop n old);
-  behind = e;
-  place = λ o.
-      let at = ends (searchable probe.join probe.ticket old (subst AreInOrder (take-append-drop n old) o)) in (
-        (λ p i. front-tests (is_before probe.join probe.ticket) old n at.0 p i),
-        (λ p i t. both_ways (is_before probe.join probe.ticket p) (back-tests (is_before probe.join probe.ticket) old n at.1 p i) t),
-      );
-}
-
--- what is taken out
-pub takes-out : (old new : List Found) (n : ℕ) (probe : Found) → n < length old → probe ≡ get_or old n probe → new ≡ remove old n → HoldsLess old n probe new
-takes-out old new n probe lt e r = record {
-  stood = record { front = take n old; back = drop (suc n) old; parts = parts-at old n probe lt ∙ ap (λ (p : Found). take n old ++ p ∷ drop (suc n) old) (sym e); place = length-take-le n old (omega (arith, lt)) };
-  left = r;
-}
-
--- the search ends where the probe is, if it is held
-pub is-missing : (join ticket : ℕ) (probes : List Found) (n : ℕ) → AreInOrder probes → (IsPartitionedBy (is_before join ticket) probes → IsPoint join ticket probes n) → ((d : Found) → n < length probes → is_of join ticket (get_or probes n d) ≡ false) → holds probes join ticket ≡ false
-is-missing join ticket probes n o ends not-there = false_from_ne_true (holds probes join ticket) (λ t.
-    let r = held-is probes join ticket t in
-    elim (In-append_cases r.0 (take n probes) (drop n probes) (subst (λ (ps : List Found). In r.0 ps) (sym (take-append-drop n probes)) r.1)) [
-      | inl i ↦ apart r.0 to (precedes r.0 to (front-tests (is_before join ticket) probes n at.0 r.0 i)) r.2 r.3
-      | inr i ↦ elim (cases_lt n (length probes)) [
-        | inl lt ↦ back r.0 r.2 r.3 lt (subst (λ (ps : List Found). In r.0 ps) (drop-cons probes n r.0 lt) i)
-        | inr ge ↦ absurd (subst (λ (ps : List Found). In r.0 ps) (drop_of_length-le probes ge) i)
-      ]
-    ])
-  where
-    to : Found
-    to = record { join = join; ticket = ticket; rows = [] }
-
-    at : IsPoint join ticket probes n
-    at = ends (searchable join ticket probes o)
-
-    back : (p : Found) → p.join ≡ join → p.ticket ≡ ticket → n < length probes → In p (get_or probes n p ∷ drop (suc n) probes) → ⊥
-    back p j u lt (inl e) = both_ways (is_of join ticket p) (subst (λ (y : Found). is_of join ticket y ≡ false) e (not-there p lt)) (key-from join ticket p j u)
-    back p j u lt (inr k) =
-        let y = get_or probes n p in
-        let q = (order-parts (take n probes) y (drop (suc n) probes) (subst AreInOrder (parts-at probes n p lt) o)).1 p k in
-        both_ways (is_before join ticket y) (at.1 n p (omega arith) lt) (tested y to (as-to y q))
-      where
-        as-to : (y : Found) → Precedes y p → Precedes y to
-        as-to y (inl l) = inl (omega (arith, l, j))
-        as-to y (inr q) = inr (q.0 ∙ j, (let l = q.1 in omega (arith, l, u)))

@@ -1,5 +1,6 @@
 pub mod UnderWay
 pub mod InOrder
+pub mod Placed
 pub mod Standing
 pub mod NewHand
 pub mod Keys

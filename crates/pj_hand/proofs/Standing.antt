@@ -12,20 +12,20 @@ use Rattle.pj_events.specs.Outcomes.{goes_beyond, results_of}
 use Rattle.pj_events.specs.Plan.{ArePlanned}
 use Rattle.pj_plan.specs.Sound.{IsSoundPlan}
 use Rattle.pj_probe.specs.declared.probe.Found.{Found}
-use Rattle.pj_core.specs.Calls.{AreResults, FindsNone, FitNode, HasArrived, HasGiven, HasSwept, IsCause, IsGiveCause, IsOpen, IsRefused, StopsNow, TakesNext}
+use Rattle.pj_core.specs.Calls.{AreResults, FindsNone, FitNode, HasArrived, HasSwept, IsCause, IsGiveCause, IsOpen, IsRefused, StopsNow, TakesNext}
 use Rattle.pj_core.specs.Cores.{Notes, StandsFor, nodes_after, nodes_in}
 use Rattle.pj_core.specs.Plans.{RunPlan, nodes_of}
 use Rattle.pj_core.proofs.Planned.{planned}
 use Rattle.pj_core_laws.proofs.UnderWay.{fits-under_way, opens-under_way}
 use Rattle.pj_laws.specs.Seats.{IsUnderWay}
 use Rattle.pj_value.specs.declared.values.Value.{Value}
-use Rattle.pj_value.proofs.Members.{In-append_right, any_from}
+use Rattle.pj_value.proofs.Members.{any_from}
 use Rattle.pj_script.specs.declared.step.ScriptStep.TheVariants.{Give, Sweep, Take}
 use Rattle.pj_script.specs.Playing.{give_if, take_if, under_way_at}
 use Rattle.pj_hand.specs.Hands.{HandState, HandStandsFor, HoldsUnderWay, StandsForOne}
-use Rattle.pj_hand.specs.Held.{AreInOrder, HoldsLess, HoldsMore, IsFound, holds, is_of}
-use Rattle.pj_hand.specs.Steps.{HandArrives, HandNotes, HandStops, IsHandCause, IsHandRefused, IsMade, MakesStep, SkipsStep, StopsGiveAt, GivesAt, IsUnderWayThere, LacksMemory}
-use Rattle.pj_hand.proofs.InOrder.{holds-less, holds-more, in-less, in-more, is-held, key-is, order-less, order-more, stands-same, stood-in}
+use Rattle.pj_hand.specs.Held.{AreInOrder, first_place, found_at, holds, is_of, put_in, without}
+use Rattle.pj_hand.specs.Steps.{AnswersStep, GivesFirst, GivesOne, GivesProbe, HandArrives, HandNotes, HandStops, IsEventRefused, IsGiveRefused, IsHandCause, IsHandRefused, IsMade, IsUnderWayThere, LacksMemory, MakesStep, SkipsStep, StopsGive, StopsGiveFirst}
+use Rattle.pj_hand.proofs.InOrder.{HoldsLess, HoldsMore, first-held, found-is, found-none, holds-less, holds-more, in-less, in-more, is-held, key-is, order-less, order-more, puts-in, stood-in, takes-out}
 use Rattle.pj_hand.proofs.UnderWay.{changed, entry-changes, results-kept, taken-now, way-is}
 
 -- ---- one entry more
@@ -119,8 +119,7 @@ refused-at : (o : Option Stop) (old new : HandState) (stop : Stop) (cause now : 
 refused-at None old new stop cause now held f r = (stops old new stop r.0, f r.1)
 refused-at (Some before) old new stop cause now held f r = record { again = r.again; stays = λ i. record { core = r.stays i; taken = held i } }
 
-pub refused : (old new : HandState) (event : Event) (stop : Stop) → new.taken ≡ old.taken → IsRefused old.core.kept.stop old.core new.core stop (IsCause old.core event stop)
-    → IsHandRefused old.core.kept.stop old new stop (IsHandCause old event stop)
+pub refused : (old new : HandState) (event : Event) (stop : Stop) → new.taken ≡ old.taken → IsRefused old.core.kept.stop old.core new.core stop (IsCause old.core event stop) → IsEventRefused old new event stop
 refused old new event stop held r = refused-at old.core.kept.stop old new stop (IsCause old.core event stop) (IsHandCause old event stop) held (cause-on old event stop) r
 
 pub take-refused : (old new : HandState) (stop : Stop) → new.taken ≡ old.taken → IsRefused old.core.kept.stop old.core new.core stop (stop ≡ NoMemory)
@@ -129,8 +128,8 @@ take-refused old new stop held r = refused-at old.core.kept.stop old new stop (s
 
 -- ---- takes
 
-pub takes : (old new : HandState) (probe : Found) → IsSoundPlan old.core.plan.nodes → old.core.kept.stop ≡ None → TakesNext old.core new.core probe → HoldsMore old.taken probe new.taken → MakesStep old new Take
-takes old new probe sound on t more = record {
+pub takes : (old new : HandState) (probe : Found) → IsSoundPlan old.core.plan.nodes → old.core.kept.stop ≡ None → TakesNext old.core new.core probe → new.taken ≡ put_in probe old.taken → MakesStep old new Take
+takes old new probe sound on t put = record {
   on = (on, t.on);
   plan = t.notes.plan;
   limit = t.notes.limit;
@@ -141,7 +140,7 @@ takes old new probe sound on t more = record {
     entry = plain (Taken probe.join probe.ticket)
 
     stands : (h : List Entry) → HandStandsFor old h → HandStandsFor new (h ++ entry ∷ [])
-    stands h H = record { stands = S; held = λ q. held-after old new sound t.notes.plan h entry W S (order-more old.taken probe new.taken more W.ordered free) (holds-more old.taken probe new.taken more) finds }
+    stands h H = record { stands = S; held = λ q. held-after old new sound t.notes.plan h entry W S (order-more old.taken probe new.taken more W.ordered) (holds-more old.taken probe new.taken more) finds }
       where
         S : StandsFor new.core (h ++ entry ∷ [])
         S = t.notes.stands h H.stands
@@ -151,6 +150,9 @@ takes old new probe sound on t more = record {
 
         free : holds old.taken probe.join probe.ticket ≡ false
         free = W.those probe.join probe.ticket ∙ taken-now (nodes_in old.core) (made old new sound t.notes.plan) h probe.join probe.ticket entry refl (legal-as old new sound t.notes.plan (h ++ entry ∷ []) S)
+
+        more : HoldsMore old.taken probe new.taken
+        more = subst (HoldsMore old.taken probe) (sym put) (puts-in old.taken probe W.ordered free)
 
         finds : (p : Found) → In p new.taken → In p old.taken ⊎ AreResults new.core (h ++ entry ∷ []) p p
         finds p i = elim (in-more old.taken probe new.taken more p i) [
@@ -167,10 +169,17 @@ takes-none old new on held f = record {
 
 -- ---- gives
 
--- the probe at a place was given, and its ticket is no longer under way
-pub given-stands : (old new : HandState) (at : ℕ) → IsSoundPlan old.core.plan.nodes → (g : GivesAt old new at) → (h : List Entry) → HandStandsFor old h → HandStandsFor new (h ++ plain (Given g.probe.join g.probe.ticket) ∷ [])
-given-stands old new at sound g h H = record { stands = S; held = λ q. held-after old new sound g.given.plan h entry W S (order-less old.taken at g.probe new.taken g.less W.ordered) (holds-less old.taken at g.probe new.taken g.less W.ordered) (λ p i. inl (in-less old.taken at g.probe new.taken g.less p i)) }
+-- what is taken out where a probe was given
+pub less-of : (old new : HandState) (join ticket : ℕ) → (g : GivesProbe old new join ticket) → HoldsLess old.taken g.probe new.taken
+less-of old new join ticket g = subst (HoldsLess old.taken g.probe) (sym g.left) (takes-out old.taken join ticket g.probe g.stood)
+
+-- the probe of a ticket was given, which is no longer under way
+pub given-stands : (old new : HandState) (join ticket : ℕ) → IsSoundPlan old.core.plan.nodes → (g : GivesProbe old new join ticket) → (h : List Entry) → HandStandsFor old h → HandStandsFor new (h ++ plain (Given g.probe.join g.probe.ticket) ∷ [])
+given-stands old new join ticket sound g h H = record { stands = S; held = λ q. held-after old new sound g.given.plan h entry W S (order-less old.taken g.probe new.taken less W.ordered) (holds-less old.taken g.probe new.taken less W.ordered) (λ p i. inl (in-less old.taken g.probe new.taken less p i)) }
   where
+    less : HoldsLess old.taken g.probe new.taken
+    less = less-of old new join ticket g
+
     entry : Entry
     entry = plain (Given g.probe.join g.probe.ticket)
 
@@ -178,7 +187,7 @@ given-stands old new at sound g h H = record { stands = S; held = λ q. held-aft
     W = H.held g.given.on.0
 
     S : StandsFor new.core (h ++ entry ∷ [])
-    S = g.given.stands h H.stands (W.finds g.probe (stood-in old.taken at g.probe new.taken g.less))
+    S = g.given.stands h H.stands (W.finds g.probe (stood-in old.taken g.probe new.taken less))
 
 -- the hand holds what is under way
 holds-now : (hand : HandState) → hand.core.kept.stop ≡ None → (one : StandsForOne hand) → HoldsUnderWay hand one.0
@@ -199,34 +208,44 @@ fits-node hand sound on one probe i =
     subst (λ (rows : List (List Value)). FitNode hand.core probe.join rows) (sym ((holds-now hand on one).finds probe i))
     (fits-under_way hand.core sound one.0 one.1.stands probe (way-here hand sound on one probe i))
 
+-- a probe that is found is held
+pub found-in : (probes : List Found) (join ticket : ℕ) (probe : Found) → found_at probes join ticket ≡ Some probe → In probe probes
+found-in probes join ticket probe e = stood-in probes probe (without probes join ticket) (takes-out probes join ticket probe e)
+
+given-as : (join ticket : ℕ) (probe : Found) → is_of join ticket probe ≡ true → Given probe.join probe.ticket ≡ Given join ticket
+given-as join ticket probe t = let k = key-is join ticket probe t in λ i. Given (k.0 i) (k.1 i)
+
 -- the probe of a ticket was given
-pub gives : (old new : HandState) (at join ticket : ℕ) → IsSoundPlan old.core.plan.nodes → IsFound old.taken at join ticket → GivesAt old new at → MakesStep old new (Give join ticket)
-gives old new at join ticket sound found g = record {
+gives : (old new : HandState) (join ticket : ℕ) → IsSoundPlan old.core.plan.nodes → GivesProbe old new join ticket → MakesStep old new (Give join ticket)
+gives old new join ticket sound g = record {
   on = g.given.on;
   plan = g.given.plan;
   limit = g.given.limit;
   makes = λ h H left.
       let W = H.held g.given.on.0 in
-      let i = stood-in old.taken at g.probe new.taken g.less in
-      let way = sym (W.those join ticket) ∙ any_from (is_of join ticket) old.taken g.probe i key in
+      let way = sym (W.those join ticket) ∙ any_from (is_of join ticket) old.taken g.probe there key in
       subst (λ (b : Bool). IsMade old new h (give_if b join ticket)) (sym way) (
-        subst (λ (e : Event). goes_beyond old.core.limit (nodes_in old.core) h e ≡ None) event (g.given.within h H.stands (W.finds g.probe i)),
-        subst (λ (e : Event). HandStandsFor new (h ++ plain e ∷ [])) event (given-stands old new at sound g h H),
+        subst (λ (e : Event). goes_beyond old.core.limit (nodes_in old.core) h e ≡ None) event (g.given.within h H.stands (W.finds g.probe there)),
+        subst (λ (e : Event). HandStandsFor new (h ++ plain e ∷ [])) event (given-stands old new join ticket sound g h H),
       );
 }
   where
     key : is_of join ticket g.probe ≡ true
-    key = subst (λ (p : Found). is_of join ticket p ≡ true) (stands-same old.taken at found.probe g.probe found.stands g.less.stood) found.is
+    key = found-is old.taken join ticket g.probe g.stood
+
+    there : In g.probe old.taken
+    there = found-in old.taken join ticket g.probe g.stood
 
     event : Given g.probe.join g.probe.ticket ≡ Given join ticket
-    event = let k = key-is join ticket g.probe key in λ i. Given (k.0 i) (k.1 i)
+    event = given-as join ticket g.probe key
 
--- the ticket is not under way
-pub gives_none : (old new : HandState) (join ticket : ℕ) → old.core.kept.stop ≡ None → new ≡ old → (AreInOrder old.taken → holds old.taken join ticket ≡ false) → SkipsStep old new (Give join ticket)
-gives_none old new join ticket on stays none = record {
+-- it was given, or its ticket is not under way
+pub gives-one : (made : Bool) (old new : HandState) (join ticket : ℕ) → IsSoundPlan old.core.plan.nodes → old.core.kept.stop ≡ None → GivesOne made old new join ticket → AnswersStep made old new (Give join ticket)
+gives-one true old new join ticket sound on g = gives old new join ticket sound g
+gives-one false old new join ticket sound on g = record {
   on = on;
-  stays = stays;
-  none = λ h H left. let W = H.held on in ap (λ (b : Bool). give_if b join ticket) (sym (W.those join ticket) ∙ none W.ordered);
+  stays = g.1;
+  none = λ h H left. ap (λ (b : Bool). give_if b join ticket) (sym ((H.held on).those join ticket) ∙ found-none old.taken join ticket g.0);
 }
 
 -- the core stopped at the give
@@ -234,40 +253,40 @@ give-cause : (old : HandState) (probe : Found) (stop : Stop) → old.core.kept.s
 give-cause old probe (Limit node) on i c = λ h H. c h H.stands ((H.held on).finds probe i)
 give-cause old probe NoMemory on i c = tt
 
-pub give-stops : (old new : HandState) (at join ticket : ℕ) (stop : Stop) → old.core.kept.stop ≡ None → IsFound old.taken at join ticket → StopsGiveAt old new at stop → IsHandRefused old.core.kept.stop old new stop (IsHandCause old (Given join ticket) stop × IsUnderWayThere old join ticket)
-give-stops old new at join ticket stop on found s =
+give-stops : (old new : HandState) (join ticket : ℕ) (stop : Stop) → old.core.kept.stop ≡ None → StopsGive old new join ticket stop → IsHandRefused old.core.kept.stop old new stop (IsHandCause old (Given join ticket) stop × IsUnderWayThere old join ticket)
+give-stops old new join ticket stop on s =
     subst (λ (o : Option Stop). IsHandRefused o old new stop (IsHandCause old (Given join ticket) stop × IsUnderWayThere old join ticket)) (sym on) (
       stops old new stop s.stops,
       (
-        subst (λ (e : Event). IsHandCause old e stop) event (give-cause old s.probe stop on there s.cause),
+        subst (λ (e : Event). IsHandCause old e stop) (given-as join ticket s.probe key) (give-cause old s.probe stop on there s.cause),
         λ h H. sym ((H.held on).those join ticket) ∙ any_from (is_of join ticket) old.taken s.probe there key,
       ),
     )
   where
-    there : In s.probe old.taken
-    there = subst (λ (ps : List Found). In s.probe ps) (sym s.stood.parts) (In-append_right s.probe s.stood.front (s.probe ∷ s.stood.back) (inl refl))
-
     key : is_of join ticket s.probe ≡ true
-    key = subst (λ (p : Found). is_of join ticket p ≡ true) (stands-same old.taken at found.probe s.probe found.stands s.stood) found.is
+    key = found-is old.taken join ticket s.probe s.stood
 
-    event : Given s.probe.join s.probe.ticket ≡ Given join ticket
-    event =
-        let k = key-is join ticket s.probe key in
-        λ i. Given (k.0 i) (k.1 i)
+    there : In s.probe old.taken
+    there = found-in old.taken join ticket s.probe s.stood
 
-pub give_refused : (old new : HandState) (at join ticket : ℕ) (stop : Stop) → old.core.kept.stop ≡ None → IsFound old.taken at join ticket → LacksMemory old new stop ⊎ StopsGiveAt old new at stop
-    → LacksMemory old new stop ⊎ IsHandRefused old.core.kept.stop old new stop (IsHandCause old (Given join ticket) stop × IsUnderWayThere old join ticket)
-give_refused old new at join ticket stop on found (inl m) = inl m
-give_refused old new at join ticket stop on found (inr s) = inr (give-stops old new at join ticket stop on found s)
+pub give-refused : (old new : HandState) (join ticket : ℕ) (stop : Stop) → old.core.kept.stop ≡ None → LacksMemory old new stop ⊎ StopsGive old new join ticket stop → IsGiveRefused old new join ticket stop
+give-refused old new join ticket stop on (inl m) = inl m
+give-refused old new join ticket stop on (inr s) = inr (give-stops old new join ticket stop on s)
 
--- ---- one probe
+-- ---- the first probe
 
--- what was found for the probe at a place is what was given
-pub gives-at : (old new : HandState) (at : ℕ) (probe found : Found) → HoldsLess old.taken at probe new.taken → found ≡ probe → HasGiven old.core new.core probe found → GivesAt old new at
-gives-at old new at probe found less e g = record { probe = probe; less = less; given = subst (λ (f : Found). HasGiven old.core new.core probe f) e g }
+-- what was done at the first place was done with the first probe
+pub gives-first : (made : Bool) (old mid new : HandState) (place : ℕ × ℕ) → mid ≡ old → Some place ≡ first_place old.taken → GivesOne made mid new place.0 place.1 → GivesFirst made old new
+gives-first made old mid new place same first g = go made (subst (λ (x : HandState). GivesOne made x new place.0 place.1) same g)
+  where
+    go : (b : Bool) → GivesOne b old new place.0 place.1 → GivesFirst b old new
+    go true g = (place, sym first, g)
+    go false g = absurd (first-held old.taken place (sym first) g.0)
 
-pub stops-give-at : (old new : HandState) (at : ℕ) (probe found : Found) (stop : Stop) (left : List Found) → old.core.kept.stop ≡ None → HoldsLess old.taken at probe left → found ≡ probe
-    → IsRefused old.core.kept.stop old.core new.core stop (IsGiveCause old.core probe found stop) → StopsGiveAt old new at stop
-stops-give-at old new at probe found stop left on less e r =
-    let z = subst (λ (o : Option Stop). IsRefused o old.core new.core stop (IsGiveCause old.core probe found stop)) on r in
-    record { probe = probe; stood = less.stood; stops = z.0; cause = subst (λ (f : Found). IsGiveCause old.core probe f stop) e z.1 }
+pub stops-first : (old mid new : HandState) (place : ℕ × ℕ) (stop : Stop) → mid ≡ old → Some place ≡ first_place old.taken → LacksMemory mid new stop ⊎ StopsGive mid new place.0 place.1 stop
+    → LacksMemory old new stop ⊎ StopsGiveFirst old new stop
+stops-first old mid new place stop same first r = go (subst (λ (x : HandState). LacksMemory x new stop ⊎ StopsGive x new place.0 place.1 stop) same r)
+  where
+    go : LacksMemory old new stop ⊎ StopsGive old new place.0 place.1 stop → LacksMemory old new stop ⊎ StopsGiveFirst old new stop
+    go (inl m) = inl m
+    go (inr s) = inr (place, sym first, s)

@@ -1,8 +1,8 @@
 -- What the calls of a hand make, each one step of a replay.
-use Rattle.std.specs.Prelude.{ℕ, ◌≡◌, Bool, true, false, List, [], ◌∷◌, ◌++◌, Option, Some, None}
+use Rattle.std.specs.Prelude.{ℕ, ◌≡◌, ◌⊎◌, Bool, true, false, List, [], ◌∷◌, ◌++◌, Option, Some, None}
 use Rattle.pj_events.specs.declared.events.Entry.{Entry}
 use Rattle.pj_events.specs.declared.events.Event.{Event}
-use Rattle.pj_events.specs.declared.events.Event.TheVariants.{Stopped}
+use Rattle.pj_events.specs.declared.events.Event.TheVariants.{Stopped, Give as Given}
 use Rattle.pj_events.specs.declared.events.Stop.{Stop}
 use Rattle.pj_events.specs.declared.events.Stop.TheVariants.{Limit, NoMemory}
 use Rattle.pj_events.specs.OneThread.{Turn, plain}
@@ -14,7 +14,7 @@ use Rattle.pj_script.specs.declared.step.ScriptStep.{ScriptStep}
 use Rattle.pj_script.specs.Playing.{step_entry, under_way_at}
 use Rattle.pj_value.specs.Lists.{has}
 use Rattle.pj_hand.specs.Hands.{HandState, HandStandsFor}
-use Rattle.pj_hand.specs.Held.{HoldsLess, StandsAt}
+use Rattle.pj_hand.specs.Held.{first_place, found_at, without}
 
 -- ---- a new hand
 
@@ -103,22 +103,43 @@ pub record LacksMemory (old new : HandState) (stop : Stop) : Type 0 where
   pub memory : stop ≡ NoMemory
   pub stays : new ≡ old
 
+-- ---- refusals of the calls
+
+-- how the call of an event is refused
+abbrev pub IsEventRefused : HandState → HandState → Event → Stop → Type 0
+IsEventRefused old new event stop = IsHandRefused old.core.kept.stop old new stop (IsHandCause old event stop)
+
+-- and the give of a ticket: a core that stops now, stops at a ticket that is under way
+abbrev pub IsGiveRefused : HandState → HandState → ℕ → ℕ → Stop → Type 0
+IsGiveRefused old new join ticket stop =
+    LacksMemory old new stop ⊎ IsHandRefused old.core.kept.stop old new stop (IsHandCause old (Given join ticket) stop × IsUnderWayThere old join ticket)
+
 -- ---- one probe
 
--- the probe at this place was worked on, given and taken out
-pub record GivesAt (old new : HandState) (at : ℕ) : Type 0 where
+-- the probe of this ticket of this join was worked on, given and taken out
+pub record GivesProbe (old new : HandState) (join ticket : ℕ) : Type 0 where
   pub probe : Found
-  pub less : HoldsLess old.taken at probe new.taken
+  pub stood : found_at old.taken join ticket ≡ Some probe
+  pub left : new.taken ≡ without old.taken join ticket
   pub given : HasGiven old.core new.core probe probe
 
--- the core stopped at the give of the probe at this place
-pub record StopsGiveAt (old new : HandState) (at : ℕ) (stop : Stop) : Type 0 where
+-- it was given, or it is not held
+abbrev pub GivesOne : Bool → HandState → HandState → ℕ → ℕ → Type 0
+GivesOne true old new join ticket = GivesProbe old new join ticket
+GivesOne false old new join ticket = (found_at old.taken join ticket ≡ None) × (new ≡ old)
+
+-- the core stopped at its give
+pub record StopsGive (old new : HandState) (join ticket : ℕ) (stop : Stop) : Type 0 where
   pub probe : Found
-  pub stood : StandsAt old.taken at probe
+  pub stood : found_at old.taken join ticket ≡ Some probe
   pub stops : StopsNow old.core new.core stop
   pub cause : IsGiveCause old.core probe probe stop
 
 -- the first probe that is held was given, or there is none
 abbrev pub GivesFirst : Bool → HandState → HandState → Type 0
-GivesFirst true old new = GivesAt old new 0
+GivesFirst true old new = (place : ℕ × ℕ) × (first_place old.taken ≡ Some place) × GivesProbe old new place.0 place.1
 GivesFirst false old new = (old.taken ≡ []) × (new ≡ old)
+
+-- the core stopped at its give
+abbrev pub StopsGiveFirst : HandState → HandState → Stop → Type 0
+StopsGiveFirst old new stop = (place : ℕ × ℕ) × (first_place old.taken ≡ Some place) × StopsGive old new place.0 place.1 stop

@@ -4,22 +4,20 @@ ghost use Rattle.pj_pattern.specs.Fitting.{FitsDomains};
 ghost use Rattle.pj_shape.specs.Columns.{domains_of};
 ghost use Rattle.pj_plan.specs.Nodes.{streams_of, stream_columns, streams_in};
 ghost use Rattle.pj_plan.specs.Sound.{IsSoundPlan};
-ghost use Rattle.pj_events.specs.declared.events.Event.TheVariants.{Arrive as Arrives, Drain as Drains, Give as Gives, Sweep as Sweeps};
+ghost use Rattle.pj_events.specs.declared.events.Event.TheVariants.{Arrive as Arrives, Drain as Drains, Sweep as Sweeps};
 ghost use Rattle.pj_events.specs.OneThread.{arrival_of, plain};
 ghost use Rattle.pj_core.specs.Calls.{IsFresh, IsJoinInput, arriving_of, closing_of};
 ghost use Rattle.pj_core.specs.Plans.{RunPlan};
 ghost use Rattle.pj_script.specs.declared.step.ScriptStep.TheVariants.{Give, Sweep, Take};
 ghost use Rattle.pj_core.specs.Turns.{Finishes, StopsMaking, working};
 ghost use Rattle.pj_hand.specs.Hands.{StandsForOne};
-ghost use Rattle.pj_hand.specs.Held.{AreInOrder, IsFound, IsWorkAt, holds};
-ghost use Rattle.pj_hand.specs.Steps.{AnswersStep, GivesAt, GivesFirst, HandArrives, HandNotes, IsHandCause, IsHandRefused, IsNewHand, IsUnderWayThere, LacksMemory, MakesStep, StopsGiveAt};
+ghost use Rattle.pj_hand.specs.Steps.{AnswersStep, GivesFirst, GivesOne, HandArrives, HandNotes, IsEventRefused, IsGiveRefused, IsHandRefused, IsNewHand, LacksMemory, MakesStep, StopsGive, StopsGiveFirst};
 
-use crate::held::{find, hold, take_out, work_at};
-use pj_core::{Core, Found, Out, Probe, Stop};
+use crate::held::HeldProbes;
+use pj_core::{Core, Out, Stop};
 use pj_pattern::Element;
 use pj_value::{List, NoMemory};
 use std::alloc::Global;
-use std::collections::VecDeque;
 use std::marker::Model;
 
 /// A core whose steps are made one at a time, and the probes that were taken from it and are not given.
@@ -30,7 +28,7 @@ use std::marker::Model;
 pub struct Hand {
     alloc: Global,
     core: Core,
-    taken: VecDeque<Probe>,
+    taken: HeldProbes,
     stop: Option<Stop>,
 }
 
@@ -39,7 +37,7 @@ impl Model for Hand {
 
     ghost Value = { HandState };
 
-    ghost view = { λ h. record { core = h.core; taken = h.taken.items } };
+    ghost view = { λ h. record { core = h.core; taken = h.taken.probes } };
 
     ghost invariant = { λ h. KnowsCore h.core h.stop };
 }
@@ -53,7 +51,7 @@ impl Hand {
         Hand {
             alloc,
             core,
-            taken: VecDeque::new(alloc),
+            taken: HeldProbes::new(alloc),
             stop: None,
         }
     }
@@ -87,7 +85,7 @@ impl Hand {
         requires there { stream < length (streams_of self.old.core.plan.nodes) }
         requires fits { FitsDomains (domains_of (stream_columns (streams_in self.old.core.plan.nodes) stream)) element }
         ensures ok { OnOk result (HandArrives self.old self.new (arrival_of (arriving_of stream element))) }
-        ensures err { IfErr result (λ stop. IsHandRefused self.old.core.kept.stop self.old self.new stop (IsHandCause self.old (Arrives stream element) stop)) }
+        ensures err { IfErr result (λ stop. IsEventRefused self.old self.new (Arrives stream element) stop) }
     {
         match self.core.arrive(stream, element) {
             Ok(()) => Ok(()),
@@ -104,7 +102,7 @@ impl Hand {
     pub fn close_stream(&mut self, stream: u32) -> Result<(), Stop>
         requires there { stream < length (streams_of self.old.core.plan.nodes) }
         ensures ok { OnOk result (HandArrives self.old self.new (arrival_of (closing_of self.old.core stream))) }
-        ensures err { IfErr result (λ stop. IsHandRefused self.old.core.kept.stop self.old self.new stop (IsHandCause self.old (Arrives stream (closing_of self.old.core stream).element) stop)) }
+        ensures err { IfErr result (λ stop. IsEventRefused self.old self.new (Arrives stream (closing_of self.old.core stream).element) stop) }
     {
         match self.core.close_stream(stream) {
             Ok(()) => Ok(()),
@@ -118,20 +116,20 @@ impl Hand {
     /// Takes a ticket, from the first join in order that has one pending its least, and holds its probe; `false` exactly where
     /// none is pending.
     ///
-    /// `NoMemory` comes where memory could not be had, for the core, which then stops, or before the take for the probe; any other
-    /// stop only where it was answered before.
+    /// `NoMemory` comes where memory could not be had, for the core, which then stops, or before the take for the place of the probe
+    /// that was taken before; any other stop only where it was answered before.
     pub fn take(&mut self) -> Result<bool, Stop>
         ensures ok { IfOk result (λ made. AnswersStep made self.old self.new Take) }
         ensures err { IfErr result (λ stop. LacksMemory self.old self.new stop ⊎ IsHandRefused self.old.core.kept.stop self.old self.new stop (stop ≡ Stop.NoMemory)) }
     {
         match self.stop {
             Some(stop) => Err(stop),
-            None => match self.taken.reserve(1) {
-                Err(_) => Err(Stop::NoMemory),
+            None => match self.taken.make_room() {
+                Err(NoMemory) => Err(Stop::NoMemory),
                 Ok(()) => match self.core.take() {
                     Ok(None) => Ok(false),
                     Ok(Some(probe)) => {
-                        hold(&mut self.taken, probe);
+                        self.taken.hold(probe);
                         Ok(true)
                     }
                     Err(stop) => {
@@ -146,21 +144,18 @@ impl Hand {
     /// Works on the probe of a ticket of a join that is under way, and gives it; `false` exactly where it is not under way. The hand
     /// stands for a history: what arrived might follow.
     ///
-    /// The stops are those of an arrival. Where the work of the probe finds no memory, nothing stops, and the probe is still held.
-    #[tactic(auto, using(crate::proofs::Standing::gives, crate::proofs::Standing::gives_none, crate::proofs::Standing::give_refused))]
+    /// The stops are those of an arrival. Where there is no memory for the work of the probe, or for the place of the probe that was
+    /// taken last, nothing stops, and the probe is still held.
     pub fn give(&mut self, join: u32, ticket: u64) -> Result<bool, Stop>
         requires { StandsForOne self.old }
         ensures ok { IfOk result (λ made. AnswersStep made self.old self.new (Give join ticket)) }
-        ensures err { IfErr result (λ stop. LacksMemory self.old self.new stop ⊎ IsHandRefused self.old.core.kept.stop self.old self.new stop (IsHandCause self.old (Gives join ticket) stop × IsUnderWayThere self.old join ticket)) }
+        ensures err { IfErr result (λ stop. IsGiveRefused self.old self.new join ticket stop) }
     {
         match self.stopped() {
             Some(stop) => Err(stop),
-            None => match self.place_of(join, ticket) {
-                None => Ok(false),
-                Some(place) => match self.give_at(place) {
-                    Ok(()) => Ok(true),
-                    Err(stop) => Err(stop),
-                },
+            None => match self.give_one(join, ticket) {
+                Ok(made) => Ok(made),
+                Err(stop) => Err(stop),
             },
         }
     }
@@ -171,7 +166,7 @@ impl Hand {
     pub fn sweep(&mut self, join: u32, input: u32) -> Result<(), Stop>
         requires there { IsJoinInput self.old.core join input }
         ensures ok { OnOk result (MakesStep self.old self.new (Sweep join input)) }
-        ensures err { IfErr result (λ stop. IsHandRefused self.old.core.kept.stop self.old self.new stop (IsHandCause self.old (Sweeps join input) stop)) }
+        ensures err { IfErr result (λ stop. IsEventRefused self.old self.new (Sweeps join input) stop) }
     {
         match self.core.sweep(join, input) {
             Ok(_) => Ok(()),
@@ -191,46 +186,23 @@ impl Hand {
         self.core.drain()
     }
 
-    // The place of the probe of this ticket among those that are held, where it is one of them.
-    fn place_of(&self, join: u32, ticket: u64) -> Option<usize>
-        ensures found { IfSome result (λ at. IsFound self.now.taken at join ticket) }
-        ensures missing { IfNone result (AreInOrder self.now.taken → holds self.now.taken join ticket ≡ false) }
-    {
-        find(&self.taken, join, ticket)
-    }
-
-    // Works on the probe at this place among those that are held, and gives it.
-    fn give_at(&mut self, at: usize) -> Result<(), Stop>
+    // Works on the probe of a ticket of a join, where it is held, and gives it.
+    fn give_one(&mut self, join: u32, ticket: u64) -> Result<bool, Stop>
         requires on { self.old.core.kept.stop ≡ None }
-        requires there { at < length self.old.taken }
         requires stands { StandsForOne self.old }
-        ensures ok { OnOk result (GivesAt self.old self.new at) }
-        ensures err { IfErr result (λ stop. LacksMemory self.old self.new stop ⊎ StopsGiveAt self.old self.new at stop) }
+        ensures ok { IfOk result (λ made. GivesOne made self.old self.new join ticket) }
+        ensures err { IfErr result (λ stop. LacksMemory self.old self.new stop ⊎ StopsGive self.old self.new join ticket stop) }
     {
-        match work_at(self.alloc, &self.taken, at) {
-            Ok(found) => match self.give_found(at, found) {
-                Ok(()) => Ok(()),
-                Err(stop) => Err(stop),
-            },
+        match self.taken.draw(self.alloc, join, ticket) {
             Err(NoMemory) => Err(Stop::NoMemory),
-        }
-    }
-
-    // Gives what was found for the probe at this place.
-    fn give_found(&mut self, at: usize, found: Found) -> Result<(), Stop>
-        requires on { self.old.core.kept.stop ≡ None }
-        requires there { IsWorkAt self.old.taken at found }
-        requires stands { StandsForOne self.old }
-        ensures ok { OnOk result (GivesAt self.old self.new at) }
-        ensures err { IfErr result (λ stop. StopsGiveAt self.old self.new at stop) }
-    {
-        let probe = take_out(&mut self.taken, at);
-        match self.core.give(probe, found) {
-            Ok(()) => Ok(()),
-            Err(stop) => {
-                self.stop = Some(stop);
-                Err(stop)
-            }
+            Ok(None) => Ok(false),
+            Ok(Some((probe, found))) => match self.core.give(probe, found) {
+                Ok(()) => Ok(true),
+                Err(stop) => {
+                    self.stop = Some(stop);
+                    Err(stop)
+                }
+            },
         }
     }
 
@@ -247,14 +219,15 @@ impl Hand {
         requires on { self.old.core.kept.stop ≡ None }
         requires stands { StandsForOne self.old }
         ensures ok { IfOk result (λ more. GivesFirst more self.old self.new) }
-        ensures err { IfErr result (λ stop. LacksMemory self.old self.new stop ⊎ StopsGiveAt self.old self.new 0 stop) }
+        ensures err { IfErr result (λ stop. LacksMemory self.old self.new stop ⊎ StopsGiveFirst self.old self.new stop) }
     {
-        if self.taken.is_empty() {
-            return Ok(false);
-        }
-        match self.give_at(0) {
-            Ok(()) => Ok(true),
-            Err(stop) => Err(stop),
+        match self.taken.first() {
+            Err(NoMemory) => Err(Stop::NoMemory),
+            Ok(None) => Ok(false),
+            Ok(Some((join, ticket))) => match self.give_one(join, ticket) {
+                Ok(more) => Ok(more),
+                Err(stop) => Err(stop),
+            },
         }
     }
 

@@ -1,80 +1,138 @@
 // Probes that are held, in order of join and ticket.
-ghost use Rattle.std.specs.Prelude.{◌≡◌, ◌+◌, ◌<◌, false, length, IfNone, IfOk, IfSome};
-ghost use Rattle.std.specs.VecDeque.{deque_len, deque_capacity};
-ghost use Rattle.pj_hand.specs.Held.{AreInOrder, HoldsLess, HoldsMore, IsFound, IsWorkAt, holds, is_before, is_of};
+ghost use Rattle.std.specs.Prelude.{◌≡◌, false, [], IfOk, OnErr, OnOk};
+ghost use Rattle.pj_hand.specs.Held.{IsDrawn, first_place, found_at, put_in, without};
 
 use pj_core::{Found, Probe};
 use pj_value::NoMemory;
 use std::alloc::Global;
-use std::collections::VecDeque;
+use std::collections::BTreeMap;
+use std::marker::Model;
 
-// Whether the probe stands before this ticket of this join.
-fn is_before(probe: &Probe, join: u32, ticket: u64) -> bool
-    ensures { result ≡ is_before join ticket probe.now }
-{
-    probe.join() < join || (probe.join() == join && probe.ticket() < ticket)
+/// Probes that are held, by their joins and tickets.
+///
+/// A probe is taken before its place is known, so memory for the place can be wanting only once there is no way back. Such a probe
+/// waits, and comes to its place before anything else is done.
+#[derive(Drop)]
+pub(crate) struct HeldProbes {
+    placed: BTreeMap<(u32, u64), Probe>,
+    waiting: Option<Probe>,
 }
 
-// Whether it is the probe of this ticket of this join.
-fn is_of(probe: &Probe, join: u32, ticket: u64) -> bool
-    ensures { result ≡ is_of join ticket probe.now }
-{
-    probe.join() == join && probe.ticket() == ticket
+impl Model for HeldProbes {
+    ghost use Rattle.std.specs.Prelude.{is_some};
+    ghost use Rattle.std.specs.Map.{values_of};
+    ghost use Rattle.pj_hand.specs.Held.{AreKeyed, HeldView, held_in};
+
+    ghost Value = { HeldView };
+
+    ghost view = { λ h. record { probes = held_in (values_of h.placed.entries) h.waiting; waits = is_some h.waiting } };
+
+    ghost invariant = { λ h. AreKeyed h.placed.entries };
 }
 
-// Puts the probe at its place. There is room for it.
-pub(crate) fn hold(probes: &mut VecDeque<Probe>, probe: Probe)
-    requires { deque_len probes.old < deque_capacity probes.old }
-    ensures { HoldsMore probes.old.items probe probes.new.items }
-{
-    let join = probe.join();
-    let ticket = probe.ticket();
-    let place = probes.partition_point(|other| is_before(other, join, ticket));
-    match probes.insert(place, probe) {
-        Ok(()) => {}
-        Err(_) => unreachable!(),
+impl HeldProbes {
+    // No probe is held.
+    pub(crate) fn new(alloc: Global) -> HeldProbes
+        ensures { result.probes ≡ [] }
+    {
+        HeldProbes {
+            placed: BTreeMap::new(alloc),
+            waiting: None,
+        }
     }
-}
 
-// The place of the probe of this ticket of this join, where it is held.
-pub(crate) fn find(probes: &VecDeque<Probe>, join: u32, ticket: u64) -> Option<usize>
-    ensures found { IfSome result (λ at. IsFound probes.now.items at join ticket) }
-    ensures missing { IfNone result (AreInOrder probes.now.items → holds probes.now.items join ticket ≡ false) }
-{
-    let place = probes.partition_point(|other| is_before(other, join, ticket));
-    match probes.get(place) {
-        None => None,
-        Some(probe) => {
-            if is_of(probe, join, ticket) {
-                Some(place)
-            } else {
-                None
+    // Brings the probe that waits, if any, to its place.
+    pub(crate) fn make_room(&mut self) -> Result<(), NoMemory>
+        ensures same { self.new.probes ≡ self.old.probes }
+        ensures ok { OnOk result (self.new.waits ≡ false) }
+    {
+        match self.waiting.take() {
+            None => Ok(()),
+            Some(probe) => {
+                self.hold(probe);
+                if self.waiting.is_none() {
+                    Ok(())
+                } else {
+                    Err(NoMemory)
+                }
             }
         }
     }
-}
 
-// Works on the probe at this place.
-pub(crate) fn work_at(alloc: Global, probes: &VecDeque<Probe>, at: usize) -> Result<Found, NoMemory>
-    requires { at < length probes.now.items }
-    ensures { IfOk result (λ found. IsWorkAt probes.now.items at found) }
-{
-    match probes.get(at) {
-        None => unreachable!(),
-        Some(probe) => match probe.work(alloc) {
-            Ok(found) => Ok(found),
-            Err(NoMemory) => Err(NoMemory),
-        },
+    // Puts the probe to its place; it waits where there is no memory for that.
+    pub(crate) fn hold(&mut self, probe: Probe)
+        requires { self.old.waits ≡ false }
+        ensures { self.new.probes ≡ put_in probe self.old.probes }
+    {
+        let place = (probe.join(), probe.ticket());
+        match self.placed.insert(place, probe) {
+            Ok(_) => {}
+            Err(failed) => self.waiting = Some(failed.value.1),
+        }
     }
-}
 
-// Takes out the probe at this place.
-pub(crate) fn take_out(probes: &mut VecDeque<Probe>, at: usize) -> Probe
-    requires { at < length probes.old.items }
-    ensures { HoldsLess probes.old.items at result probes.new.items }
-{
-    match probes.remove(at) {
-        None => unreachable!(),
-        Some(probe) => probe,
+    // The place of the first probe.
+    pub(crate) fn first(&mut self) -> Result<Option<(u32, u64)>, NoMemory>
+        ensures same { self.new.probes ≡ self.old.probes }
+        ensures ok { IfOk result (λ first. first ≡ first_place self.old.probes) }
+    {
+        match self.make_room() {
+            Ok(()) => Ok(self.first_placed()),
+            Err(NoMemory) => Err(NoMemory),
+        }
+    }
+
+    // Works on the probe of this ticket of this join, where it is held, and takes it out with what its work found.
+    pub(crate) fn draw(
+        &mut self,
+        alloc: Global,
+        join: u32,
+        ticket: u64,
+    ) -> Result<Option<(Probe, Found)>, NoMemory>
+        ensures ok { IfOk result (λ drawn. IsDrawn drawn self.old.probes join ticket self.new.probes) }
+        ensures err { OnErr result (self.new.probes ≡ self.old.probes) }
+    {
+        match self.make_room() {
+            Ok(()) => match self.work_at(alloc, join, ticket) {
+                Ok(None) => Ok(None),
+                Ok(Some(found)) => match self.take_out(join, ticket) {
+                    None => unreachable!(),
+                    Some(probe) => Ok(Some((probe, found))),
+                },
+                Err(NoMemory) => Err(NoMemory),
+            },
+            Err(NoMemory) => Err(NoMemory),
+        }
+    }
+
+    fn first_placed(&self) -> Option<(u32, u64)>
+        requires { self.now.waits ≡ false }
+        ensures { result ≡ first_place self.now.probes }
+    {
+        match self.placed.first_key_value() {
+            None => None,
+            Some((place, _)) => Some(*place),
+        }
+    }
+
+    fn work_at(&self, alloc: Global, join: u32, ticket: u64) -> Result<Option<Found>, NoMemory>
+        requires { self.now.waits ≡ false }
+        ensures { IfOk result (λ found. found ≡ found_at self.now.probes join ticket) }
+    {
+        match self.placed.get(&(join, ticket)) {
+            None => Ok(None),
+            Some(probe) => match probe.work(alloc) {
+                Ok(found) => Ok(Some(found)),
+                Err(NoMemory) => Err(NoMemory),
+            },
+        }
+    }
+
+    fn take_out(&mut self, join: u32, ticket: u64) -> Option<Probe>
+        requires { self.old.waits ≡ false }
+        ensures value { result ≡ found_at self.old.probes join ticket }
+        ensures left { self.new.probes ≡ without self.old.probes join ticket }
+    {
+        self.placed.remove(&(join, ticket))
     }
 }

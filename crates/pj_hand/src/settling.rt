@@ -13,8 +13,8 @@ impl Hand {
     /// is taken, worked on and given, in order; each join is then swept, input by input, and all that is pending after each sweep is
     /// done; and all that was not drained is handed out. The hand stands for a history: what arrived might follow.
     ///
-    /// The stops are those of an arrival. Where the work of a probe finds no memory, nothing stops, and that probe and those behind
-    /// it are still held. What was gained before stays to be drained.
+    /// The stops are those of an arrival. Where there is no memory for the work of a probe, or for the place of the probe that was
+    /// taken last, nothing stops, and that probe and those behind it are still held. What was gained before stays to be drained.
     pub fn settle(&mut self) -> Result<List<Out>, Stop>
         requires { StandsForOne self.old }
         ensures ok { IfOk result (λ outs. SettlesHand self.old self.new outs) }
