@@ -9,8 +9,8 @@ use Rattle.pj_element.specs.Runs.{rows_of, puncts_of, fed}
 use Rattle.pj_plan.specs.declared.fault.PlanWhy.{PlanWhy}
 use Rattle.pj_plan.specs.declared.fault.PlanWhy.TheVariants.{NotAPlan, UnknownStatement, BadShape, NameTwice, UnknownName, UnknownColumn, ColumnTwice, KindsDiffer, BadClass, BadScheme, UsedTwiceOrNever, TooMany, Output, Unreadable}
 use Rattle.pj_report.specs.declared.status.Status.{Status}
-use Rattle.pj_report.specs.declared.status.LimitOf.TheVariants.{Plan, Node, File}
-use Rattle.pj_report.specs.declared.status.Status.TheVariants.{Done, Usage, OpenFault, ReadFault, PlanRefused, FileCount, Unsafe, WriteFault, NoMemory, Limit}
+use Rattle.pj_report.specs.declared.status.LimitOf.TheVariants.{Plan, Script, Node, File}
+use Rattle.pj_report.specs.declared.status.Status.TheVariants.{Done, Usage, OpenFault, ReadFault, PlanRefused, FileCount, Unsafe, ScriptRefused, WriteFault, NoMemory, Limit}
 
 abbrev pub reject_words : Reject → List ℕ
 reject_words TooLong = codes "too long"
@@ -85,11 +85,13 @@ status_line name Usage = fed (codes "# usage: run PLAN FILE.. | replay PLAN SCRI
 status_line name (PlanRefused line why) = fed (codes "# refused plan line " ++ decimal line ++ fault_words why)
 status_line name (FileCount want got) = fed (codes "# refused files want " ++ decimal want ++ codes " got " ++ decimal got)
 status_line name (Unsafe node risk) = []
+status_line name (ScriptRefused line) = fed (codes "# refused script line " ++ decimal line)
 status_line name (OpenFault operand) = fed (codes "# stopped open fault operand " ++ decimal operand)
 status_line name (ReadFault operand) = fed (codes "# stopped read fault operand " ++ decimal operand)
 status_line name WriteFault = []
 status_line name NoMemory = fed (codes "# stopped no memory")
 status_line name (Limit Plan) = fed (codes "# stopped limit plan")
+status_line name (Limit Script) = fed (codes "# stopped limit script")
 status_line name (Limit (Node node)) = fed (codes "# stopped limit node " ++ name)
 status_line name (Limit (File stream)) = fed (codes "# stopped limit file " ++ name)
 
@@ -100,6 +102,7 @@ HasLine Usage = ⊤
 HasLine (PlanRefused line why) = ⊤
 HasLine (FileCount want got) = ⊤
 HasLine (Unsafe node risk) = ⊥
+HasLine (ScriptRefused line) = ⊤
 HasLine (OpenFault operand) = ⊤
 HasLine (ReadFault operand) = ⊤
 HasLine WriteFault = ⊥
@@ -116,5 +119,6 @@ status_number (ReadFault operand) = 3
 status_number WriteFault = 4
 status_number NoMemory = 5
 status_number (Limit what) = 6
+status_number (ScriptRefused line) = 7
 status_number (FileCount want got) = 8
 status_number Usage = 64

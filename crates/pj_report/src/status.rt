@@ -18,7 +18,9 @@ pub enum Status {
     FileCount { want: u32, got: u32 },
     /// A node of the plan is not safe: the first such node, counted from 0, and its risk.
     Unsafe { node: u32, risk: PlanRisk },
-    /// A file could not be opened; operands are counted from 1, the plan being 1.
+    /// A line of the script is no step, or its step is not enabled as the run comes to it: the first such line, counted from 1.
+    ScriptRefused { line: u64 },
+    /// A file could not be opened; operands are counted from 1, the plan being 1, and a script 2.
     OpenFault { operand: u32 },
     /// A file could not be read.
     ReadFault { operand: u32 },
@@ -35,6 +37,8 @@ pub enum Status {
 pub enum LimitOf {
     /// The bytes of the plan.
     Plan,
+    /// The bytes of the script.
+    Script,
     /// The arrivals at a join or a group, by the number of its node.
     Node(u32),
     /// The bytes of a stream's file, by the number of the stream.
@@ -55,6 +59,7 @@ impl Status {
             Status::WriteFault => 4,
             Status::NoMemory => 5,
             Status::Limit { .. } => 6,
+            Status::ScriptRefused { .. } => 7,
             Status::FileCount { .. } => 8,
             Status::Usage => 64,
         }

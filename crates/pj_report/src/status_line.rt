@@ -35,6 +35,10 @@ pub fn write_status<K: Sink>(name: &[u8], status: Status, out: &mut K)
         Status::PlanRefused { line, why } => write_fault(line, why, out),
         Status::FileCount { want, got } => write_counts(want, got, out),
         Status::Unsafe { .. } => Ok(()),
+        Status::ScriptRefused { line } => {
+            let text = digits.format(line);
+            deliver(out, b"# refused script line ", text.as_bytes())
+        }
         Status::OpenFault { operand } => {
             let text = digits.format(operand);
             deliver(out, b"# stopped open fault operand ", text.as_bytes())
@@ -47,6 +51,7 @@ pub fn write_status<K: Sink>(name: &[u8], status: Status, out: &mut K)
         Status::NoMemory => deliver(out, b"# stopped no memory", b""),
         Status::Limit { what } => match what {
             LimitOf::Plan => deliver(out, b"# stopped limit plan", b""),
+            LimitOf::Script => deliver(out, b"# stopped limit script", b""),
             LimitOf::Node(_) => deliver(out, b"# stopped limit node ", name),
             LimitOf::File(_) => deliver(out, b"# stopped limit file ", name),
         },

@@ -15,3 +15,9 @@ returns-in-Node-clause-line g c = λ t. rw (c.in-Limit.is, c.in-Node.is) (c.deli
 
 pub returns-in-File-clause-line : goal.returns-in-File-clause-line
 returns-in-File-clause-line g c = λ t. rw (c.in-Limit.is, c.in-File.is) (c.deliver-in-File.ensures.line t)
+
+pub returns-in-Script-clause-line : goal.returns-in-Script-clause-line
+returns-in-Script-clause-line g c = λ t. rw (c.in-Limit.is, c.in-Script.is) (c.deliver-in-Script.ensures.line t)
+
+pub returns-in-ScriptRefused-clause-line : goal.returns-in-ScriptRefused-clause-line
+returns-in-ScriptRefused-clause-line g c = λ t. rw (c.in-ScriptRefused.is, sym (c.as_bytes.ensures.value ∙ c.format-text.ensures.text)) (c.deliver-in-ScriptRefused.ensures.line t)
