@@ -37,7 +37,7 @@ use Rattle.pj_run.specs.Stops.{of_core, of_turn}
 use Rattle.pj_script.specs.declared.step.ScriptStep.{ScriptStep}
 use Rattle.pj_script.specs.declared.step.ScriptStep.TheVariants.{Arrive, Take, Give, Sweep, Drain}
 use Rattle.pj_script.specs.Playing.{give_if, left_behind, step_entry, take_if, under_way_at}
-use Rattle.pj_replay.specs.Goes.{HasLists}
+use Rattle.pj_run.specs.Goes.{HasLists}
 use Rattle.pj_replay.specs.Playing.{AnswersPlay, Follows, GoesOver, IsReady, KeepsRowsOf, MakesEntry, Stage, StepMade, StepSkipped, StepStops, entry_of, lefts, stage}
 use Rattle.pj_replay.proofs.Made.{core-stops, memory-stops, stops-now}
 use Rattle.pj_replay.proofs.Settled.{quiet-outs}

@@ -1,26 +1,15 @@
 -- A replay begins: a new core, over new feeds.
-use Rattle.std.proofs.Common.{◌≡◌, ℕ, zero, suc, ◌+◌, ◌<◌, Bool, cond, List, [], ◌∷◌, ◌++◌, length, Some, None, refl, ap, sym, ◌∙◌, append-nil, subst, arith}
+use Rattle.std.proofs.Common.{◌≡◌, ℕ, zero, suc, ◌+◌, Bool, cond, List, [], ◌∷◌, ◌++◌, length, Option, Some, refl, ap, sym, ◌∙◌, append-nil, subst, arith}
 use Rattle.std.specs.List.{slice_get}
 use Rattle.pj_io.specs.States.{SinkState}
 use Rattle.pj_pattern.specs.declared.element.Element.{Element}
-use Rattle.pj_plan.specs.Canonical.{no_node}
 use Rattle.pj_plan.specs.Nodes.{streams_in}
 use Rattle.pj_plan.specs.Sound.{IsSoundPlan}
-use Rattle.pj_scheme.specs.Derived.{schemes_of}
 use Rattle.pj_element.specs.Accepted.{fates_of, taken_of}
-use Rattle.pj_events.specs.Join.{inputs}
-use Rattle.pj_events.specs.Plan.{Operator, Stream, Select, Project, Union, Join, Group, operator_at}
-use Rattle.pj_events.specs.History.{data_in}
-use Rattle.pj_laws.specs.Seats.{HasInput}
 use Rattle.pj_core.specs.Cores.{CoreState}
-use Rattle.pj_core.proofs.Frames.{certs_at, operator-is}
-use Rattle.pj_core.proofs.Planned.{nodes-long}
-use Rattle.pj_core_laws.proofs.Allowed.{input-of}
-use Rattle.std.specs.Prelude.{slice_index_or}
 use Rattle.pj_feed.specs.Feeds.{FeedState, AreFeeds, AreNew, accepted_of, files_of}
 use Rattle.pj_feed.proofs.AllFeeds.{all_same, feeds_long, one_of}
 use Rattle.pj_feed.proofs.FeedFacts.{counted}
-use Rattle.pj_feed.proofs.StreamNodes.{count_numbers}
 use Rattle.pj_hand.specs.Hands.{HandState}
 use Rattle.pj_hand.specs.Steps.{IsNewHand}
 use Rattle.pj_report.specs.Forms.{taken_so_far}
@@ -30,48 +19,21 @@ use Rattle.pj_run.specs.declared.run.Gathered.{Gathered}
 use Rattle.pj_run.specs.declared.run.Writing.{Writing}
 use Rattle.pj_run.specs.Checking.{HoldsNone}
 use Rattle.pj_run.specs.Jobs.{Job}
-use Rattle.pj_run.specs.Runs.{IsNewCore, job_in, plan_in, plan_run, run_nodes}
-use Rattle.pj_run.proofs.Accepting.{accepted_lists, count-streams}
+use Rattle.pj_run.specs.Runs.{IsEnabled, IsNewCore, job_by, plan_in, plan_run, run_nodes}
+use Rattle.pj_run.proofs.OutputLaws.{legal_run, whole_run}
+use Rattle.pj_run.proofs.Planned.{IsPlanned, new_planned}
 use Rattle.pj_run.proofs.Running.{feeds-lists}
 use Rattle.pj_script.specs.declared.step.ScriptStep.{ScriptStep}
-use Rattle.pj_script.specs.declared.step.ScriptStep.TheVariants.{Arrive, Take, Give, Sweep, Drain}
 use Rattle.pj_events.specs.OneThread.{Turn}
-use Rattle.pj_script.specs.Playing.{AllFit, FitsPlan, all_left, play}
-use Rattle.pj_script.specs.Reading.{AreStepsOf, IsStepOf}
-use Rattle.pj_script_laws.specs.Laws.{MayPlay}
-use Rattle.pj_script_laws.proofs.Whole.{scripted-is-complete, scripted-is-legal}
-use Rattle.pj_replay.specs.Goes.{BringsAll, Replay}
+use Rattle.pj_script.specs.Playing.{all_left, play}
+use Rattle.pj_script.specs.Reading.{AreStepsOf}
+use Rattle.pj_run.specs.Goes.{BringsAll, RunStart}
 use Rattle.pj_replay.specs.Playing.{Follows, IsReady, Stage, lefts, stage}
 use Rattle.pj_replay.specs.Plays.{IsPlaying, remaining}
-use Rattle.pj_replay.specs.Wholes.{replay_of}
 
--- ---- steps that fit
-
-has-inputs : (o : Operator) (input : ℕ) → HasInput o input → input < inputs (data_in o)
-has-inputs (Stream schema sent) input h = absurd h
-has-inputs (Select test) input h = absurd h
-has-inputs (Project columns) input h = absurd h
-has-inputs (Union n u) input h = absurd h
-has-inputs (Join spec s) input h = h
-has-inputs (Group spec rows) input h = absurd h
-
-step-of : (job : Job) → IsSoundPlan job.nodes → (step : ScriptStep) → IsStepOf job.nodes step → FitsPlan (run_nodes job) step
-step-of job sound (Arrive stream) fit = let a = count_numbers job.nodes in let b = count-streams job in omega (arith, fit, a, b)
-step-of job sound Take fit = tt
-step-of job sound (Give join ticket) fit = let a = nodes-long (plan_run job) in let b = fit.there in omega (arith, a, b)
-step-of job sound (Sweep join input) fit =
-    let lt : join < length job.nodes = fit.0.there in
-    let node = slice_index_or job.nodes join no_node in (
-      (let a = nodes-long (plan_run job) in omega (arith, a, lt)),
-      has-inputs (operator_at (run_nodes job) join) input
-          (subst (λ (o : Operator). HasInput o input) (sym (operator-is (schemes_of job.nodes) (plan_run job).certs job.nodes join lt))
-          (input-of job.nodes (schemes_of job.nodes) (certs_at job.nodes (plan_run job).certs join) node.schema node.node input (sound.each join lt).operator fit.0.joins fit.1)),
-    )
-step-of job sound Drain fit = tt
-
-steps-of : (job : Job) → IsSoundPlan job.nodes → (steps : List (ℕ × ScriptStep)) → AreStepsOf job.nodes steps → AllFit (run_nodes job) steps
-steps-of job sound [] fit = tt
-steps-of job sound ((line, step) ∷ steps) fit = (step-of job sound step fit.0, steps-of job sound steps fit.1)
+-- the run of a new core, by this script if there is one
+abbrev pub replay_of : Option (List (ℕ × ScriptStep)) → Writing → CoreState → List FeedState → SinkState → RunStart
+replay_of script writing core feeds sink = record { job = job_by script writing core; feeds = feeds; sink = sink }
 
 -- ---- the beginning
 
@@ -86,19 +48,17 @@ new-at (f ∷ feeds) (suc k) feed new is = new-at feeds k feed new.2 is
 
 module _ (writing : Writing) (core : CoreState) (fresh : IsNewCore core) (steps : List (ℕ × ScriptStep)) (feeds : List FeedState) (sink : SinkState) (fed : AreFeeds 0 (streams_in core.plan.nodes) feeds) (new : AreNew feeds) (fit : AreStepsOf core.plan.nodes steps) where
   abbrev job : Job
-  job = job_in writing core
+  job = job_by (Some steps) writing core
 
-  abbrev run : Replay
-  run = replay_of job steps feeds sink
+  abbrev run : RunStart
+  run = replay_of (Some steps) writing core feeds sink
+
+  pub is-planned : IsPlanned job
+  is-planned = new_planned (Some steps) writing core fresh fit
 
   -- all arrives where no step is refused
-  pub brings-all : run.refused ≡ None → BringsAll job (files_of feeds) run.whole
-  brings-all enabled =
-      let may : MayPlay (run_nodes job) (accepted_of (streams_in job.nodes) (files_of feeds)) steps = record { accepted = accepted_lists job (files_of feeds); fit = steps-of job fresh.sound steps fit } in
-      record {
-        legal = (scripted-is-legal (plan_run job) fresh.sound fresh.certified (accepted_of (streams_in job.nodes) (files_of feeds)) steps may).legal;
-        elements = (scripted-is-complete (plan_run job) fresh.sound fresh.certified (accepted_of (streams_in job.nodes) (files_of feeds)) steps may enabled).arrived;
-      }
+  pub brings-all : IsEnabled job (files_of feeds) → BringsAll run
+  brings-all enabled = record { legal = legal_run job (files_of feeds) is-planned; elements = (whole_run job (files_of feeds) is-planned enabled).arrived }
 
   module _ (hand : HandState) (gathered : Gathered) (at : IsNewHand core hand) (results : gathered.results ≡ taken_so_far writing.form []) (asked : gathered.accepted.asked ≡ writing.check) (lists : HoldsNone (cond writing.check (length feeds) 0) gathered.accepted.lists.items) where
     abbrev start : Stage
@@ -145,7 +105,9 @@ module _ (writing : Writing) (core : CoreState) (fresh : IsNewCore core) (steps 
       all = ap (λ (c : CoreState). c.kept.undrained) at.over ∙ fresh.fresh.undrained;
       taken = results;
       written = λ t. sym (append-nil sink.written) ∙ ap (λ (ls : List (List ℕ)). sink.written ++ flat ls) (sym (shown-nil job.form job.nodes));
+      asked = asked;
       kept = λ a k lt. lists.1 k;
+      script = (steps, refl);
       rest = λ told. ap (λ (ls : List (List Turn)). remaining (run_nodes job) ls steps) (sym lefts-are);
       refused = λ told. ap (λ (ls : List (List Turn)). (play (run_nodes job) ls steps).refused) (sym lefts-are);
     }

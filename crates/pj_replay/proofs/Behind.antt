@@ -21,7 +21,7 @@ use Rattle.pj_laws.proofs.OneRun.{elements-append}
 use Rattle.pj_laws.proofs.OneThreadAnswer.{rounds-go-on}
 use Rattle.pj_laws.proofs.Steps.{elements-append as outs-elements}
 use Rattle.pj_core.specs.Plans.{RunPlan, nodes_of}
-use Rattle.pj_feed.specs.Feeds.{FeedState, AllTold, feed_left, feeds_left, files_of}
+use Rattle.pj_feed.specs.Feeds.{FeedState, AllTold, feed_left, feeds_left}
 use Rattle.pj_hand.specs.Hands.{HandState, HandStandsFor}
 use Rattle.pj_hand.specs.Settling.{settling}
 use Rattle.pj_report.specs.declared.writer.Form.{Form}
@@ -40,11 +40,11 @@ use Rattle.pj_run.proofs.Arrivals.{none-from, none-swept}
 use Rattle.pj_run.proofs.Carried.{turn_cut_same}
 use Rattle.pj_run.proofs.Running.{reached}
 use Rattle.pj_script.specs.Playing.{gives, gives_at, gives_from, settled, under_way_at}
-use Rattle.pj_replay.specs.Goes.{BringsAll, CoreCause, IsGoing, Replay, StopCause, StopLeaves}
+use Rattle.pj_run.specs.Goes.{BringsAll, CoreCause, IsGoing, RunStart, StopCause, StopLeaves, whole_of}
 use Rattle.pj_replay.specs.Playing.{Stage, lefts}
 use Rattle.pj_replay.specs.Plays.{IsPlaying}
 use Rattle.pj_replay.specs.Settles.{BreaksAt, CoreSettling, SettleStops, SettlesInto, lines_with, outs_with}
-use Rattle.pj_replay.proofs.Going.{shown_until}
+use Rattle.pj_run.proofs.Going.{shown_until}
 
 -- ---- settling brings nothing to a stream
 
@@ -70,7 +70,7 @@ none-settled s nodes =
     (elements-append s (probed ++ sweeps) (plain Drain ∷ [])
     ∙ ap (λ (xs : List Element). xs ++ []) (elements-append s probed sweeps ∙ ap₂ (λ (xs ys : List Element). xs ++ ys) (none-from s (length given) 0 given) (none-swept s after (places_from 0 after))))
 
-module _ (run : Replay) (h : List Entry) (s : Stage) (p : IsPlaying run h s []) where
+module _ (run : RunStart) (h : List Entry) (s : Stage) (p : IsPlaying run h s []) where
   abbrev nodes : List Node
   nodes = nodes_from (run_nodes run.job) h
 
@@ -83,7 +83,7 @@ module _ (run : Replay) (h : List Entry) (s : Stage) (p : IsPlaying run h s []) 
   settling-is : settling s.hand h ≡ more
   settling-is = ap (λ (q : RunPlan). settled (nodes_from (nodes_of q) h)) p.plan
 
-  whole-is : AllTold run.feeds → run.whole ≡ h ++ (more ++ turns_entries true (nodes_from nodes more) turns)
+  whole-is : AllTold run.feeds → whole_of run ≡ h ++ (more ++ turns_entries true (nodes_from nodes more) turns)
   whole-is told = p.rest told
 
   -- what settling hands out
@@ -107,7 +107,7 @@ module _ (run : Replay) (h : List Entry) (s : Stage) (p : IsPlaying run h s []) 
 
   -- ---- it was settled
 
-  rest-is : (at : ℕ) → at ≡ 0 → (q : AllTold run.feeds) → (h ++ more) ++ turns_entries true (nodes_from (run_nodes run.job) (h ++ more)) (feeds_left (streams_in run.job.nodes) s.feeds at) ≡ run.whole
+  rest-is : (at : ℕ) → at ≡ 0 → (q : AllTold run.feeds) → (h ++ more) ++ turns_entries true (nodes_from (run_nodes run.job) (h ++ more)) (feeds_left (streams_in run.job.nodes) s.feeds at) ≡ whole_of run
   rest-is at first told =
       ap₂ (λ (ns : List Node) (ts : List Turn). (h ++ more) ++ turns_entries true ns ts) (nodes-append (run_nodes run.job) h more)
       (ap (feeds_left (streams_in run.job.nodes) s.feeds) first ∙ sym (rounds-go-on (map (feed_left (streams_in run.job.nodes)) s.feeds))
@@ -117,11 +117,12 @@ module _ (run : Replay) (h : List Entry) (s : Stage) (p : IsPlaying run h s []) 
   module _ (hand' : HandState) (results' : ResultWriter) (sink' : SinkState) (at : ℕ) (first : at ≡ 0) (did : SettlesInto s.hand hand' s.gathered.results results') (form : results'.form ≡ s.gathered.results.form) (tells : IsTrue sink'.told → IsTrue s.sink.told)
       (later : s.sink.faults ≤ sink'.faults)
       (wrote : IsTrue sink'.told → (g : List Entry) → HandStandsFor s.hand g → sink'.written ≡ s.sink.written ++ flat (lines_with s.gathered.results.form s.hand g (settling s.hand g))) where
-    pub settled-going : (AllTold run.feeds → BringsAll run.job (files_of run.feeds) run.whole) → IsGoing run (h ++ more) hand'.core s.feeds at (record { results = results'; accepted = s.gathered.accepted }) sink'
+    pub settled-going : (AllTold run.feeds → BringsAll run) → IsGoing run (h ++ more) hand'.core s.feeds at (record { results = results'; accepted = s.gathered.accepted }) sink'
     settled-going brings = record {
       plan = did.settles.makes.plan ∙ p.plan;
       limit = did.settles.makes.limit ∙ p.limit;
       form = form ∙ form-here;
+      asked = p.asked;
       same = p.same;
       later = omega (arith, p.later, later);
       made = λ told. record {
@@ -149,10 +150,10 @@ module _ (run : Replay) (h : List Entry) (s : Stage) (p : IsPlaying run h s []) 
     rest-lines = shown run.job.form run.job.nodes (handed_out run.job.trace (nodes_from (run_nodes run.job) (h ++ more)) (turns_entries true (nodes_from nodes more) turns))
 
     pub settle-lines : (IsTrue sink'.told → (g : List Entry) → HandStandsFor s.hand g → Leaves (turn_cut stop) (lines_with s.gathered.results.form s.hand g (settling s.hand g)) s.sink.written sink'.written)
-        → AllTold run.feeds → IsTrue sink'.told → Leaves (run_cut (of_turn stop)) (shown_until run.job run.whole) run.sink.written sink'.written
+        → AllTold run.feeds → IsTrue sink'.told → Leaves (run_cut (of_turn stop)) (shown_until run.job (whole_of run)) run.sink.written sink'.written
     settle-lines wrote told t =
-        subst (λ (cut : Cut). Leaves cut (shown_until run.job run.whole) run.sink.written sink'.written) (sym (turn_cut_same stop))
-        (stop_among (turn_cut stop) (shown run.job.form run.job.nodes p.given) (lines_with s.gathered.results.form s.hand h more) rest-lines (shown_until run.job run.whole) run.sink.written s.sink.written sink'.written (p.written (tells t))
+        subst (λ (cut : Cut). Leaves cut (shown_until run.job (whole_of run)) run.sink.written sink'.written) (sym (turn_cut_same stop))
+        (stop_among (turn_cut stop) (shown run.job.form run.job.nodes p.given) (lines_with s.gathered.results.form s.hand h more) rest-lines (shown_until run.job (whole_of run)) run.sink.written s.sink.written sink'.written (p.written (tells t))
         (subst (λ (es : List Entry). Leaves (turn_cut stop) (lines_with s.gathered.results.form s.hand h es) s.sink.written sink'.written) settling-is (wrote t h p.follows.stands))
         (ap (λ (ls : List (List ℕ)). ls ++ rest-lines) settled-lines
         ∙ sym (shown-append run.job.form run.job.nodes (handed_out run.job.trace (run_nodes run.job) (h ++ more)) (handed_out run.job.trace (nodes_from (run_nodes run.job) (h ++ more)) (turns_entries true (nodes_from nodes more) turns)))
@@ -160,9 +161,9 @@ module _ (run : Replay) (h : List Entry) (s : Stage) (p : IsPlaying run h s []) 
         ∙ ap (λ (es : List Entry). shown_until run.job es) (append_assoc h more (turns_entries true (nodes_from nodes more) turns) ∙ sym (whole-is told))))
 
     -- the limit that was met
-    met : (node : ℕ) (b : BreaksAt s.hand h (settling s.hand h) node) → AllTold run.feeds → (r : ReachesLimit run.job.limit (run_nodes run.job) run.whole node) × (r.front ≡ h ++ b.front)
+    met : (node : ℕ) (b : BreaksAt s.hand h (settling s.hand h) node) → AllTold run.feeds → (r : ReachesLimit run.job.limit (run_nodes run.job) (whole_of run) node) × (r.front ≡ h ++ b.front)
     met node b told =
-        reached run.job.limit (run_nodes run.job) run.whole h b.front b.back (turns_entries true (nodes_from nodes more) turns) node
+        reached run.job.limit (run_nodes run.job) (whole_of run) h b.front b.back (turns_entries true (nodes_from nodes more) turns) node
         (whole-is told ∙ ap (λ (es : List Entry). h ++ (es ++ turns_entries true (nodes_from nodes more) turns)) (sym settling-is ∙ b.parts)) p.within
         (subst (λ (n : ℕ). StaysWithin n (run_nodes run.job) h b.front) p.limit (subst (λ (q : RunPlan). StaysWithin s.hand.core.limit (nodes_of q) h b.front) p.plan b.within))
         (subst (λ (n : ℕ). BeginsBeyond n (run_nodes run.job) (h ++ b.front) b.back node) p.limit (subst (λ (q : RunPlan). BeginsBeyond s.hand.core.limit (nodes_of q) (h ++ b.front) b.back node) p.plan b.beyond))

@@ -2,10 +2,8 @@ pub mod Acting
 pub mod Begins
 pub mod Behind
 pub mod Coming
-pub mod Going
+pub mod Ended
 pub mod Leaving
 pub mod Made
 pub mod Plays
 pub mod Settled
-pub mod Stepped
-pub mod Turns

@@ -41,7 +41,7 @@ use Rattle.pj_run.proofs.Running.{turn_of_feeds}
 use Rattle.pj_script.specs.declared.step.ScriptStep.{ScriptStep}
 use Rattle.pj_script.specs.declared.step.ScriptStep.TheVariants.{Arrive}
 use Rattle.pj_script.specs.Playing.{arrival_if}
-use Rattle.pj_replay.specs.Goes.{HasLists}
+use Rattle.pj_run.specs.Goes.{HasLists}
 use Rattle.pj_replay.specs.Playing.{FeedFails, Follows, GoesOver, IsOpenAt, IsReady, NextAt, NoneAt, Stage, StepMade, StepSkipped, StepStops, StepWhy, stage}
 use Rattle.pj_replay.proofs.Coming.{follows_turn, may_come}
 use Rattle.pj_replay.proofs.Settled.{quiet-outs}

@@ -37,7 +37,7 @@ use Rattle.pj_report.specs.Written.{Cut, Leaves, anywhere, between, flat, write_
 use Rattle.pj_report.proofs.Forms.{shown-append}
 use Rattle.pj_report.proofs.LinesWritten.{first_written, stop_among, written_then}
 use Rattle.pj_run.specs.declared.stops.RunStop.{RunStop}
-use Rattle.pj_run.specs.declared.stops.RunStop.TheVariants.{ReadFault, TooLarge, Limit, WriteFailed, NoMemory, Cut as RunCut}
+use Rattle.pj_run.specs.declared.stops.RunStop.TheVariants.{ReadFault, TooLarge, Limit, Refused, WriteFailed, NoMemory, Cut as RunCut, CutRead, CutLarge, CutRefused}
 use Rattle.pj_run.specs.declared.stops.FeedWhy.{FeedWhy}
 use Rattle.pj_run.specs.declared.stops.FeedWhy.TheVariants.{Intake}
 use Rattle.pj_run.specs.Runs.{plan_run, run_nodes}
@@ -46,12 +46,14 @@ use Rattle.pj_script.specs.declared.step.ScriptStep.{ScriptStep}
 use Rattle.pj_script.specs.Reading.{AreStepsOf, IsStepOf}
 use Rattle.std.proofs.lemmas.List.{drop_all, drop_more}
 use Rattle.pj_script.specs.Playing.{Played, arrival_if, behind, ending_of, left_behind, listed, play, refused_at, step_entry}
-use Rattle.pj_replay.specs.declared.stops.ReplayStop.{ReplayStop}
-use Rattle.pj_replay.specs.declared.stops.ReplayStop.TheVariants.{Refused, Run}
-use Rattle.pj_replay.specs.Goes.{Replay}
+use Rattle.pj_run.specs.Cuts.{run_cut}
+use Rattle.pj_run.specs.PlanNames.{HasShortNames}
+use Rattle.pj_run.specs.Whole.{WroteLines}
+use Rattle.pj_run.proofs.WholeLaws.{leaves_lines, leaves_wrote, lines_wrote, shown_are_lines, wrote_then}
+use Rattle.pj_run.specs.Goes.{RunStart, refused_of, whole_of}
 use Rattle.pj_replay.specs.Playing.{DrainStops, FeedFails, IsReady, MakesEntry, Stage, StepMade, StepSkipped, StepStops, StepWhy, entry_of, lefts}
-use Rattle.pj_replay.specs.Plays.{ArrivesNext, HasLeft, HasStopped, IsPlaying, StopsBehind, StopsStanding, remaining}
-use Rattle.pj_replay.proofs.Going.{shown_until}
+use Rattle.pj_replay.specs.Plays.{ArrivesNext, HasLeft, HasStopped, IsPlaying, IsWholeSoFar, StopsBehind, StopsStanding, remaining}
+use Rattle.pj_run.proofs.Going.{shown_until}
 use Rattle.pj_replay.proofs.Made.{left-at}
 
 -- ---- one step of the definition
@@ -74,7 +76,7 @@ module _ (nodes : List Node) (left : List (List Turn)) (line : ℕ) (step : Scri
 
 -- ---- a step of a replay
 
-module _ (run : Replay) (h : List Entry) (s : Stage) (line : ℕ) (step : ScriptStep) (rest : List (ℕ × ScriptStep)) (p : IsPlaying run h s ((line, step) ∷ rest)) (ready : IsReady s) where
+module _ (run : RunStart) (h : List Entry) (s : Stage) (line : ℕ) (step : ScriptStep) (rest : List (ℕ × ScriptStep)) (p : IsPlaying run h s ((line, step) ∷ rest)) (ready : IsReady s) where
   abbrev nodes : List Node
   nodes = nodes_from (run_nodes run.job) h
 
@@ -125,6 +127,7 @@ module _ (run : Replay) (h : List Entry) (s : Stage) (line : ℕ) (step : Script
             (subst (λ (f : Form). s'.sink.written ≡ s.sink.written ++ flat (shown f run.job.nodes m.outs)) form-here
             (subst (λ (q : RunPlan). s'.sink.written ≡ s.sink.written ++ flat (shown s.gathered.results.form q.nodes m.outs)) p.plan (m.written t)))
             ∙ ap (λ (ls : List (List ℕ)). run.sink.written ++ flat ls) (sym (shown-append run.job.form run.job.nodes p.given m.outs));
+        asked = m.asked ∙ p.asked;
         kept = λ asked k lt.
             let was = sym m.asked ∙ asked in
             let many = ready.lists was in
@@ -132,6 +135,7 @@ module _ (run : Replay) (h : List Entry) (s : Stage) (line : ℕ) (step : Script
             mk.kept was k (omega (arith, lt, many, count))
             ∙ (ap (λ (rs : List (List Value)). rs ++ rows_of (arrived_at k (mk.entry ∷ []))) (p.kept was k lt)
             ∙ (sym (rows_of-append (arrived_at k h) (arrived_at k (mk.entry ∷ []))) ∙ ap rows_of (sym (elements-append k h (mk.entry ∷ [])))));
+        script = p.script;
         rest = λ told.
             let t = mk.told (told-here told) in
             p.rest told ∙ ap (λ (es : List Entry). h ++ es) (remaining-step nodes (lefts s) line step rest mk.entry (entry-here (Some mk.entry) t.0))
@@ -144,6 +148,16 @@ module _ (run : Replay) (h : List Entry) (s : Stage) (line : ℕ) (step : Script
       },
     )
 
+  -- ---- whole lines, whatever the files tell
+
+  -- what was written until now
+  wrote-so-far : HasShortNames run.job.nodes → IsTrue s.sink.told → WroteLines run.sink.written s.sink.written
+  wrote-so-far names t = lines_wrote (shown run.job.form run.job.nodes p.given) run.sink.written s.sink.written (shown_are_lines run.job.form run.job.nodes p.given names) (p.written t)
+
+  -- where nothing was written since
+  whole-still : (stop : RunStop) (s' : Stage) → (IsTrue s'.sink.told → IsTrue s.sink.told) → (IsTrue s'.sink.told → s'.sink.written ≡ s.sink.written) → IsWholeSoFar stop run s'.sink
+  whole-still stop s' tells still names t = leaves_wrote (run_cut stop) run.sink.written s'.sink.written (subst (WroteLines run.sink.written) (sym (still t)) (wrote-so-far names (tells t)))
+
   -- ---- it is not enabled
 
   form-now : s.gathered.results.form ≡ run.job.form
@@ -155,7 +169,8 @@ module _ (run : Replay) (h : List Entry) (s : Stage) (line : ℕ) (step : Script
     form = ap (λ gathered. gathered.results.form) k.gathered ∙ form-now;
     same = subst (AreSameFeeds run.feeds) (sym k.feeds) p.same;
     later = subst (λ sink. run.sink.faults ≤ sink.faults) (sym k.sink) p.later;
-    cause = line-is;
+    cause = (p.script, line-is);
+    whole = whole-still (Refused line) s' (subst (λ sink. IsTrue sink.told) k.sink) (λ t. ap (λ sink. sink.written) k.sink);
     stops = record {
       front = h;
       back = [];
@@ -170,16 +185,16 @@ module _ (run : Replay) (h : List Entry) (s : Stage) (line : ℕ) (step : Script
       none : AllTold run.feeds → step_entry nodes (lefts s) step ≡ None
       none told = entry-here None (k.none (told-here told) h p.follows)
 
-      whole-is : AllTold run.feeds → run.whole ≡ h
+      whole-is : AllTold run.feeds → whole_of run ≡ h
       whole-is told = p.rest told ∙ ap (λ (es : List Entry). h ++ es) (remaining-none nodes (lefts s) line step rest (none told)) ∙ append-nil h
 
-      line-is : AllTold run.feeds → run.refused ≡ Some line
+      line-is : AllTold run.feeds → refused_of run ≡ Some line
       line-is told = p.refused told ∙ refused-none nodes (lefts s) line step rest (none told)
 
   -- ---- it stopped
 
   -- it stopped behind the history, before the step's entry
-  standing : (stop : ReplayStop) (s' : Stage) (run-stop : RunStop) → StepStops run-stop s s' step → (AllTold run.feeds → StopsBehind stop run h s'.feeds) → StopsStanding stop run s'
+  standing : (stop : RunStop) (s' : Stage) (run-stop : RunStop) → StepStops run-stop s s' step → (AllTold run.feeds → StopsBehind stop run h s'.feeds) → StopsStanding stop run s'
   standing stop s' run-stop k behind-is = record {
     front = h;
     back = remaining nodes (lefts s) ((line, step) ∷ rest);
@@ -191,21 +206,21 @@ module _ (run : Replay) (h : List Entry) (s : Stage) (line : ℕ) (step : Script
   }
 
   -- whole first lines were written
-  lines-until : (cut : Cut) (s' : Stage) (run-stop : RunStop) → StepStops run-stop s s' step → HasLeft cut run s'.sink
-  lines-until cut s' run-stop k told t =
-      first_written cut (shown run.job.form run.job.nodes p.given) (shown run.job.form run.job.nodes (s.hand.core.kept.undrained ++ handed_out run.job.trace nodes (remaining nodes (lefts s) ((line, step) ∷ rest)))) (shown_until run.job run.whole) run.sink.written s'.sink.written
+  lines-until : (s' : Stage) (run-stop : RunStop) → StepStops run-stop s s' step → HasLeft anywhere run s'.sink
+  lines-until s' run-stop k told t =
+      first_written anywhere (shown run.job.form run.job.nodes p.given) (shown run.job.form run.job.nodes (s.hand.core.kept.undrained ++ handed_out run.job.trace nodes (remaining nodes (lefts s) ((line, step) ∷ rest)))) (shown_until run.job (whole_of run)) run.sink.written s'.sink.written
       (k.written t ∙ p.written (k.told t))
       (sym (shown-append run.job.form run.job.nodes p.given (s.hand.core.kept.undrained ++ handed_out run.job.trace nodes (remaining nodes (lefts s) ((line, step) ∷ rest))))
       ∙ ap (shown run.job.form run.job.nodes) (outs-whole told))
     where
-      outs-whole : AllTold run.feeds → p.given ++ (s.hand.core.kept.undrained ++ handed_out run.job.trace nodes (remaining nodes (lefts s) ((line, step) ∷ rest))) ≡ handed_out run.job.trace (run_nodes run.job) run.whole
+      outs-whole : AllTold run.feeds → p.given ++ (s.hand.core.kept.undrained ++ handed_out run.job.trace nodes (remaining nodes (lefts s) ((line, step) ∷ rest))) ≡ handed_out run.job.trace (run_nodes run.job) (whole_of run)
       outs-whole told =
           sym (append_assoc p.given s.hand.core.kept.undrained (handed_out run.job.trace nodes (remaining nodes (lefts s) ((line, step) ∷ rest))))
           ∙ ap (λ (os : List Out). os ++ handed_out run.job.trace nodes (remaining nodes (lefts s) ((line, step) ∷ rest))) p.all
           ∙ sym (outputs-append run.job.trace (run_nodes run.job) h (remaining nodes (lefts s) ((line, step) ∷ rest))) ∙ ap (handed_out run.job.trace (run_nodes run.job)) (sym (p.rest told))
 
   -- the entry of the step would have been the next
-  next-is : (entry : Entry) → AllTold run.feeds → entry_of s h step ≡ Some entry → h ++ entry ∷ remaining (nodes_from nodes (entry ∷ [])) (left_behind (lefts s) step) rest ≡ run.whole
+  next-is : (entry : Entry) → AllTold run.feeds → entry_of s h step ≡ Some entry → h ++ entry ∷ remaining (nodes_from nodes (entry ∷ [])) (left_behind (lefts s) step) rest ≡ whole_of run
   next-is entry told is = sym (p.rest told ∙ ap (λ (es : List Entry). h ++ es) (remaining-step nodes (lefts s) line step rest entry (entry-here (Some entry) is)))
 
   module _ (s' : Stage) (stream : ℕ) where
@@ -233,7 +248,7 @@ module _ (run : Replay) (h : List Entry) (s : Stage) (line : ℕ) (step : Script
         come.arrived ∙ come.accepted.are
         ∙ sym (those_so_far (all_accepted feed) _ others.0 (count_of feed) others.1 (counted feed.intake fed.judged fed.follows.has_judged))
 
-  pub step-stops : (s' : Stage) (stop : RunStop) → StepStops stop s s' step → HasStopped (Run stop) run s'
+  pub step-stops : (s' : Stage) (stop : RunStop) → StepStops stop s s' step → HasStopped stop run s'
   step-stops s' stop k = go stop k k.why
     where
       later-now : run.sink.faults ≤ s'.sink.faults
@@ -248,7 +263,7 @@ module _ (run : Replay) (h : List Entry) (s : Stage) (line : ℕ) (step : Script
       same-now : AreSameFeeds run.feeds s'.feeds
       same-now = all_same_then run.feeds s.feeds s'.feeds p.same k.same
 
-      go : (x : RunStop) → StepStops x s s' step → StepWhy x s s' step → HasStopped (Run x) run s'
+      go : (x : RunStop) → StepStops x s s' step → StepWhy x s s' step → HasStopped x run s'
       go (ReadFault stream) k why =
           let n = why.none in
           record {
@@ -257,7 +272,8 @@ module _ (run : Replay) (h : List Entry) (s : Stage) (line : ℕ) (step : Script
             same = same-now;
             later = later-now;
             cause = (n.now, n.is_now, let r = n.ends.0 in omega (arith, r));
-            stops = standing (Run (ReadFault stream)) s' (ReadFault stream) k (λ told.
+            whole = whole-still (ReadFault stream) s' k.told k.written;
+            stops = standing (ReadFault stream) s' (ReadFault stream) k (λ told.
                 (arrives-next s' stream (Intake IntakeFault) why told, n.now, n.is_now, arrived-is s' stream n.before n.was n.still told ∙ sym (n.ends.1 (told_at s.feeds stream n.before (told-here told) n.was))));
           }
       go (TooLarge stream) k why =
@@ -269,7 +285,8 @@ module _ (run : Replay) (h : List Entry) (s : Stage) (line : ℕ) (step : Script
             same = same-now;
             later = later-now;
             cause = (first.0, first.1, λ t. subst (λ (bytes : List ℕ). 2 ^ 40 ≤ length bytes) (first.2.bytes t) (n.ends (subst IsTrue (sym first.2.told) t)).0);
-            stops = standing (Run (TooLarge stream)) s' (TooLarge stream) k (λ told.
+            whole = whole-still (TooLarge stream) s' k.told k.written;
+            stops = standing (TooLarge stream) s' (TooLarge stream) k (λ told.
                 let o = same_at s.feeds s'.feeds stream n.now n.same n.is_now in
                 let one = one_of 0 (streams_in s.hand.core.plan.nodes) s.feeds stream o.0 ready.fed o.1 in
                 let columns = ap (λ (q : RunPlan). stream_columns (streams_in q.nodes) stream) p.plan in
@@ -281,7 +298,7 @@ module _ (run : Replay) (h : List Entry) (s : Stage) (line : ℕ) (step : Script
           }
       go (Limit node) k why =
           let over = why h p.follows in
-          let reaches : AllTold run.feeds → (r : ReachesLimit run.job.limit (run_nodes run.job) run.whole node) × (r.front ≡ h) = λ told. (
+          let reaches : AllTold run.feeds → (r : ReachesLimit run.job.limit (run_nodes run.job) (whole_of run) node) × (r.front ≡ h) = λ told. (
             record {
               front = h;
               next = over.entry;
@@ -298,15 +315,20 @@ module _ (run : Replay) (h : List Entry) (s : Stage) (line : ℕ) (step : Script
             same = same-now;
             later = later-now;
             cause = λ told. (reaches told).0;
-            stops = standing (Run (Limit node)) s' (Limit node) k reaches;
+            whole = whole-still (Limit node) s' k.told k.written;
+            stops = standing (Limit node) s' (Limit node) k reaches;
           }
-      go WriteFailed k why = record { plan = plan-now; form = form-then; same = same-now; later = later-now; cause = omega (arith, why, p.later); stops = lines-until anywhere s' WriteFailed k }
-      go NoMemory k why = record { plan = plan-now; form = form-then; same = same-now; later = later-now; cause = tt; stops = lines-until between s' NoMemory k }
+      go (Refused refused) k why = absurd why
+      go WriteFailed k why = record { plan = plan-now; form = form-then; same = same-now; later = later-now; cause = omega (arith, why, p.later); whole = whole-still WriteFailed s' k.told k.written; stops = lines-until s' WriteFailed k }
+      go NoMemory k why = record { plan = plan-now; form = form-then; same = same-now; later = later-now; cause = tt; whole = whole-still NoMemory s' k.told k.written; stops = inl (standing NoMemory s' NoMemory k (λ told. tt)) }
       go (RunCut stop) k why = absurd why
+      go (CutRead stream) k why = absurd why
+      go (CutLarge stream) k why = absurd why
+      go (CutRefused line) k why = absurd why
 
   -- a drain whose lines could not be written
-  pub drain-stops : (s' : Stage) (stop : RunStop) → DrainStops stop s s' step → HasStopped (Run stop) run s'
-  drain-stops s' stop k = subst (λ (x : RunStop). HasStopped (Run x) run s') (sym k.of) (go k.why k.leaves k.fault)
+  pub drain-stops : (s' : Stage) (stop : RunStop) → DrainStops stop s s' step → HasStopped stop run s'
+  drain-stops s' stop k = subst (λ (x : RunStop). HasStopped x run s') (sym k.of) (go k.why k.leaves k.fault)
     where
       later-now : run.sink.faults ≤ s'.sink.faults
       later-now = omega (arith, p.later, k.later)
@@ -323,24 +345,30 @@ module _ (run : Replay) (h : List Entry) (s : Stage) (line : ℕ) (step : Script
       behind-this : List Out
       behind-this = handed_out run.job.trace nodes (remaining nodes (lefts s) ((line, step) ∷ rest))
 
-      outs-whole : AllTold run.feeds → (p.given ++ s.hand.core.kept.undrained) ++ behind-this ≡ handed_out run.job.trace (run_nodes run.job) run.whole
+      outs-whole : AllTold run.feeds → (p.given ++ s.hand.core.kept.undrained) ++ behind-this ≡ handed_out run.job.trace (run_nodes run.job) (whole_of run)
       outs-whole told = ap (λ (os : List Out). os ++ behind-this) p.all ∙ sym (outputs-append run.job.trace (run_nodes run.job) h (remaining nodes (lefts s) ((line, step) ∷ rest))) ∙ ap (handed_out run.job.trace (run_nodes run.job)) (sym (p.rest told))
 
       left-now : (cut : Cut) → (IsTrue s'.sink.told → Leaves cut (shown s.gathered.results.form s.hand.core.plan.nodes s.hand.core.kept.undrained) s.sink.written s'.sink.written) → HasLeft cut run s'.sink
       left-now cut leaves told t =
-          stop_among cut (shown run.job.form run.job.nodes p.given) (shown run.job.form run.job.nodes s.hand.core.kept.undrained) (shown run.job.form run.job.nodes behind-this) (shown_until run.job run.whole) run.sink.written s.sink.written s'.sink.written
+          stop_among cut (shown run.job.form run.job.nodes p.given) (shown run.job.form run.job.nodes s.hand.core.kept.undrained) (shown run.job.form run.job.nodes behind-this) (shown_until run.job (whole_of run)) run.sink.written s.sink.written s'.sink.written
           (p.written (k.told t))
           (subst (λ (f : Form). Leaves cut (shown f run.job.nodes s.hand.core.kept.undrained) s.sink.written s'.sink.written) form-now
           (subst (λ (q : RunPlan). Leaves cut (shown s.gathered.results.form q.nodes s.hand.core.kept.undrained) s.sink.written s'.sink.written) p.plan (leaves t)))
           (ap (λ (ls : List (List ℕ)). ls ++ shown run.job.form run.job.nodes behind-this) (sym (shown-append run.job.form run.job.nodes p.given s.hand.core.kept.undrained))
           ∙ sym (shown-append run.job.form run.job.nodes (p.given ++ s.hand.core.kept.undrained) behind-this) ∙ ap (shown run.job.form run.job.nodes) (outs-whole told))
 
-      go : (why : WriteStop) → (IsTrue s'.sink.told → Leaves (write_cut why) (shown s.gathered.results.form s.hand.core.plan.nodes s.hand.core.kept.undrained) s.sink.written s'.sink.written) → (why ≡ Failed → Rose s.sink.faults s'.sink.faults)
-          → HasStopped (Run (of_turn (of_write why))) run s'
-      go Failed leaves fault = record { plan = plan-now; form = form-then; same = same-now; later = later-now; cause = let r = fault refl in omega (arith, r, p.later); stops = left-now anywhere leaves }
-      go WriteMemory leaves fault = record { plan = plan-now; form = form-then; same = same-now; later = later-now; cause = tt; stops = left-now between leaves }
+      whole-now : (IsTrue s'.sink.told → Leaves between (shown s.gathered.results.form s.hand.core.plan.nodes s.hand.core.kept.undrained) s.sink.written s'.sink.written) → IsWholeSoFar NoMemory run s'.sink
+      whole-now leaves names t =
+          wrote_then run.sink.written s.sink.written s'.sink.written (wrote-so-far names (k.told t))
+          (leaves_lines between (shown s.gathered.results.form s.hand.core.plan.nodes s.hand.core.kept.undrained) s.sink.written s'.sink.written
+          (shown_are_lines s.gathered.results.form s.hand.core.plan.nodes s.hand.core.kept.undrained (subst (λ (q : RunPlan). HasShortNames q.nodes) (sym p.plan) names)) (leaves t))
 
-  pub any-stops : (s' : Stage) (stop : RunStop) → StepStops stop s s' step ⊎ DrainStops stop s s' step → HasStopped (Run stop) run s'
+      go : (why : WriteStop) → (IsTrue s'.sink.told → Leaves (write_cut why) (shown s.gathered.results.form s.hand.core.plan.nodes s.hand.core.kept.undrained) s.sink.written s'.sink.written) → (why ≡ Failed → Rose s.sink.faults s'.sink.faults)
+          → HasStopped (of_turn (of_write why)) run s'
+      go Failed leaves fault = record { plan = plan-now; form = form-then; same = same-now; later = later-now; cause = let r = fault refl in omega (arith, r, p.later); whole = λ names t. tt; stops = left-now anywhere leaves }
+      go WriteMemory leaves fault = record { plan = plan-now; form = form-then; same = same-now; later = later-now; cause = tt; whole = whole-now leaves; stops = inr (k.drained, left-now between leaves) }
+
+  pub any-stops : (s' : Stage) (stop : RunStop) → StepStops stop s s' step ⊎ DrainStops stop s s' step → HasStopped stop run s'
   any-stops s' stop (inl k) = step-stops s' stop k
   any-stops s' stop (inr k) = drain-stops s' stop k
 
@@ -352,8 +380,8 @@ step-fits nodes ((line, step) ∷ steps) zero d fits lt = fits.0
 step-fits nodes ((line, step) ∷ steps) (suc i) d fits lt = step-fits nodes steps i d fits.1 (omega (arith, lt))
 
 -- the step at a place is the first of those that are to come
-pub playing-at : (run : Replay) (h : List Entry) (s : Stage) (steps : List (ℕ × ScriptStep)) (i : ℕ) (d : ℕ × ScriptStep) → i < length steps → IsPlaying run h s (drop i steps) → IsPlaying run h s (get_or steps i d ∷ drop (i + 1) steps)
+pub playing-at : (run : RunStart) (h : List Entry) (s : Stage) (steps : List (ℕ × ScriptStep)) (i : ℕ) (d : ℕ × ScriptStep) → i < length steps → IsPlaying run h s (drop i steps) → IsPlaying run h s (get_or steps i d ∷ drop (i + 1) steps)
 playing-at run h s steps i d lt p = subst (IsPlaying run h s) (drop_more steps i d lt) p
 
-pub playing-done : (run : Replay) (h : List Entry) (s : Stage) (steps : List (ℕ × ScriptStep)) (i : ℕ) → length steps ≤ i → IsPlaying run h s (drop i steps) → IsPlaying run h s []
+pub playing-done : (run : RunStart) (h : List Entry) (s : Stage) (steps : List (ℕ × ScriptStep)) (i : ℕ) → length steps ≤ i → IsPlaying run h s (drop i steps) → IsPlaying run h s []
 playing-done run h s steps i le p = subst (IsPlaying run h s) (drop_all i steps le) p

@@ -27,13 +27,13 @@ use Rattle.pj_run.specs.declared.run.Gathered.{Gathered}
 use Rattle.pj_run.specs.declared.stops.FeedWhy.{FeedWhy}
 use Rattle.pj_run.specs.declared.stops.FeedWhy.TheVariants.{Intake}
 use Rattle.pj_run.specs.declared.stops.RunStop.{RunStop}
-use Rattle.pj_run.specs.declared.stops.RunStop.TheVariants.{ReadFault, TooLarge, Limit, WriteFailed, NoMemory, Cut as RunCut}
+use Rattle.pj_run.specs.declared.stops.RunStop.TheVariants.{ReadFault, TooLarge, Limit, Refused, WriteFailed, NoMemory, Cut as RunCut, CutRead, CutLarge, CutRefused}
 use Rattle.pj_run.specs.Feeding.{FeedEnds}
 use Rattle.pj_run.specs.Runs.{plan_in}
 use Rattle.pj_script.specs.declared.step.ScriptStep.{ScriptStep}
 use Rattle.pj_script.specs.declared.step.ScriptStep.TheVariants.{Arrive, Drain}
 use Rattle.pj_script.specs.Playing.{left_behind, step_entry}
-use Rattle.pj_replay.specs.Goes.{HasLists}
+use Rattle.pj_run.specs.Goes.{HasLists}
 
 -- a hand, its feeds, what was gathered, and the sink
 pub record Stage : Type 0 where
@@ -172,9 +172,13 @@ abbrev pub StepWhy : RunStop → Stage → Stage → ScriptStep → Type 0
 StepWhy (ReadFault stream) old new step = FeedFails old new step stream (Intake IntakeFault)
 StepWhy (TooLarge stream) old new step = FeedFails old new step stream (Intake ByteLimit)
 StepWhy (Limit node) old new step = (history : List Entry) → Follows old.hand old.feeds history → GoesOver old step node history
+StepWhy (Refused line) old new step = ⊥
 StepWhy WriteFailed old new step = Rose old.sink.faults new.sink.faults
 StepWhy NoMemory old new step = ⊤
 StepWhy (RunCut stop) old new step = ⊥
+StepWhy (CutRead stream) old new step = ⊥
+StepWhy (CutLarge stream) old new step = ⊥
+StepWhy (CutRefused line) old new step = ⊥
 
 -- a step of a stream, a take, a give or a sweep stopped: what is not drained stays, and nothing was written
 pub record StepStops (stop : RunStop) (old new : Stage) (step : ScriptStep) : Type 0 where

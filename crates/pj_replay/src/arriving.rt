@@ -1,23 +1,20 @@
 // The next turn of a stream arrives at a hand.
-ghost use Rattle.std.specs.Prelude.{◌≡◌, ◌<◌, ◌≤◌, IsTrue, true, [], None, length, IfErr, IfOk, OnErr, OnOk};
+ghost use Rattle.std.specs.Prelude.{◌≡◌, ◌<◌, ◌≤◌, IsTrue, length, IfErr, IfOk, OnOk};
 ghost use Rattle.pj_events.specs.OneThread.{arrival_of};
-ghost use Rattle.pj_feed.specs.Feeds.{turn_in, work_of, AreSameFeeds, BringsOf, ComesBehind, GivesTurn, IsFed, IsSameFeed};
+ghost use Rattle.pj_feed.specs.Feeds.{turn_in, AreSameFeeds};
 ghost use Rattle.pj_hand.specs.Steps.{HandArrives, IsHandCause, IsHandRefused};
-ghost use Rattle.pj_intake.specs.Taking.{waits_for_read};
-ghost use Rattle.pj_io.specs.Causes.{Rose};
 ghost use Rattle.pj_plan.specs.Nodes.{streams_in};
 ghost use Rattle.pj_report.specs.Written.{WritesNothing};
-ghost use Rattle.pj_run.specs.Feeding.{FeedEnds};
 ghost use Rattle.pj_run.specs.Stops.{of_core, of_turn};
 ghost use Rattle.pj_run.specs.Turning.{IsTurnOf};
 ghost use Rattle.pj_script.specs.declared.step.ScriptStep.TheVariants.{Arrive};
 ghost use Rattle.pj_replay.specs.Playing.{AnswersPlay, IsOpenAt, IsReady, NextAt, NoneAt, StepStops, stage};
 
 use pj_core::Stop;
-use pj_feed::{Arrival, Feed, Feeds};
+use pj_feed::{Arrival, Feeds};
 use pj_hand::Hand;
-use pj_io::{Failed, Sink, Source};
-use pj_run::{FeedStop, FeedWhy, Gathered, RunStop};
+use pj_io::{Sink, Source};
+use pj_run::{FeedStop, Gathered, RunStop, next_of};
 use std::alloc::Global;
 
 /// Makes the next turn of a stream, counted from 0, arrive at the hand, and keeps its row; `false` exactly where the stream has ended.
@@ -62,44 +59,10 @@ fn next_at<S: Source, K: Sink>(
     ensures written { WritesNothing (K.state out.old) (K.state out.new) }
     ensures at { feeds.new.at ≡ feeds.old.at }
 {
-    match next_arrival(&mut feeds.feeds[stream as usize], out) {
+    match next_of(&mut feeds.feeds[stream as usize], out) {
         Ok(next) => Ok(next),
         Err(why) => Err(FeedStop { stream, why }),
     }
-}
-
-// The next turn of a stream whose closing is still to come, and that whatever its source tells it follows what was accepted before.
-fn next_arrival<S: Source, K: Sink>(feed: &mut Feed<S>, out: &mut K) -> Result<Arrival, FeedWhy>
-    requires fed { IsFed feed.old }
-    requires open { feed.old.is_open ≡ true }
-    ensures fed { OnOk result (IsFed feed.new) }
-    ensures same { IsSameFeed feed.old feed.new }
-    ensures gives { IfOk result (GivesTurn feed.old feed.new) }
-    ensures comes { IfOk result (ComesBehind feed.old feed.new) }
-    ensures brings { IfOk result (BringsOf feed.old) }
-    ensures written { WritesNothing (K.state out.old) (K.state out.new) }
-    ensures stops { IfErr result (λ why. FeedEnds feed.old feed.new (K.state out.old) (K.state out.new) why) }
-{
-    'lines: loop {
-        hand_on(feed, out)?;
-        match feed.step() {
-            Ok(Some(next)) => return Ok(next),
-            Ok(None) => {}
-            Err(stop) => return Err(FeedWhy::Intake(stop)),
-        }
-    }
-}
-
-// Hands on what the output holds back, where the stream waits for its file.
-fn hand_on<S: Source, K: Sink>(feed: &Feed<S>, out: &mut K) -> Result<(), Failed>
-    ensures written { WritesNothing (K.state out.old) (K.state out.new) }
-    ensures handed_on { OnOk result (waits_for_read feed.now.intake ≡ true → (K.state out.new).held ≡ []) }
-    ensures fault { OnErr result (Rose (K.state out.old).faults (K.state out.new).faults) }
-{
-    if feed.waits() {
-        out.flush()?;
-    }
-    Ok(())
 }
 
 // A turn arrives at a hand.

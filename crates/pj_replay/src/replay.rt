@@ -1,41 +1,45 @@
 // The run of a plan by a script.
-ghost use Rattle.std.specs.Prelude.{◌≡◌, ◌≤◌, None, IsTrue, IfErr, IfOk, OnOk};
-ghost use Rattle.pj_feed.specs.Feeds.{AllTold, AreAllTaken, AreFeeds, AreNew, AreSameFeeds, files_of};
+ghost use Rattle.std.specs.Prelude.{◌≡◌, ◌≤◌, None, Some, IsTrue, IfErr, IfOk, OnOk};
+ghost use Rattle.pj_core.specs.Cores.{StandsFor};
+ghost use Rattle.pj_feed.specs.Feeds.{AllTold, AreAllTaken, AreFeeds, AreNew, AreSameFeeds, files_of, tallies_in};
 ghost use Rattle.pj_plan.specs.Nodes.{streams_in};
-ghost use Rattle.pj_run.specs.Runs.{IsNewCore, job_in};
+ghost use Rattle.pj_report.specs.declared.writer.Form.{Form};
+ghost use Rattle.pj_run.specs.Cuts.{run_cut};
+ghost use Rattle.pj_run.specs.Outcome.{IsOutcome};
+ghost use Rattle.pj_run.specs.PlanNames.{HasShortNames};
+ghost use Rattle.pj_run.specs.RunEnds.{StoppedTurns, TurnsCause, TurnsWrite};
+ghost use Rattle.pj_run.specs.Runs.{IsEnabled, IsNewCore, history_of, job_by};
+ghost use Rattle.pj_run.specs.Whole.{HasTaken, WritesWhole};
 ghost use Rattle.pj_script.specs.Reading.{AreStepsOf};
-ghost use Rattle.pj_replay.specs.Replays.{refused_line};
-ghost use Rattle.pj_replay.specs.Wholes.{WritesReplay, replay_on};
-ghost use Rattle.pj_replay.specs.Goes.{EndsRun, StopCause, StopsRun, WritesRun};
+ghost use Rattle.pj_run.specs.Goes.{StopCause, StopsRun, WritesRun, whole_of};
 ghost use Rattle.pj_replay.specs.Playing.{IsReady, stage};
-ghost use Rattle.pj_replay.specs.Plays.{StopsReplay, WherePlayed};
+ghost use Rattle.pj_replay.specs.Plays.{WherePlayed};
 
-use crate::rest::go_on;
 use crate::script::play;
 use crate::settling::settle;
-use crate::stops::ReplayStop;
 use pj_core::Core;
 use pj_feed::Feeds;
 use pj_hand::Hand;
 use pj_io::{Sink, Source};
 use pj_report::ResultWriter;
-use pj_run::{AcceptedRows, Gathered, RunStop, Writing};
+use pj_run::{AcceptedRows, Gathered, RunStop, Writing, go_on};
 use pj_script::ScriptStep;
 use pj_value::{List as Items, NoMemory};
 use std::alloc::Global;
 
-/// What a replay leaves for its end: its core, the writer of its results, and the rows that are kept for a check.
+/// How a replay ended, and its core as it is then.
 #[derive(Drop)]
 pub struct Replayed {
     pub core: Core,
-    pub gathered: Gathered,
+    pub ended: Result<Gathered, RunStop>,
 }
 
 /// Runs the plan of a new core over open feeds by a script: the steps one by one as far as each is enabled; then what is under way is
 /// given and the run is settled; and then the streams that have not ended take turns. The lines of what is handed out are written, and
 /// handed on before a read.
 ///
-/// `Refused` comes exactly where a step is not enabled, and names the line of the first; what was handed out until then is written.
+/// `Refused` comes only where a step is not enabled, and names the line of the first: what was handed out until then is written, and
+/// where the output fails then, `CutRefused` comes, with the same line. An `Ok` comes only where every step was enabled.
 pub fn replay_streams<S: Source, K: Sink>(
     alloc: Global,
     writing: Writing,
@@ -44,39 +48,45 @@ pub fn replay_streams<S: Source, K: Sink>(
     steps: &[(u64, ScriptStep)],
     text: &mut Items<u8>,
     out: &mut K,
-) -> Result<Replayed, ReplayStop>
+) -> Replayed
     requires fresh { IsNewCore core }
     requires feeds { AreFeeds 0 (streams_in core.plan.nodes) feeds.old.feeds.items }
     requires none { AreNew feeds.old.feeds.items }
     requires first { feeds.old.at ≡ 0 }
     requires fit { AreStepsOf core.plan.nodes steps.now }
-    ensures plan { IfOk result (λ done. done.core.plan ≡ core.plan) }
-    ensures on { IfOk result (λ done. done.core.kept.stop ≡ None) }
+    ensures plan { result.core.plan ≡ core.plan }
+    ensures on { OnOk result.ended (result.core.kept.stop ≡ None) }
     ensures same { AreSameFeeds feeds.old.feeds.items feeds.new.feeds.items }
     ensures told { IsTrue (K.state out.new).told → IsTrue (K.state out.old).told }
+    ensures lines { TurnsWrite (job_by (Some steps.now) writing core) feeds.old.feeds.items (K.state out.old) (K.state out.new) result.ended }
+    ensures whole { WritesWhole run_cut (K.state out.old) (K.state out.new) result.ended }
+    ensures ends { StoppedTurns (job_by (Some steps.now) writing core) feeds.old.feeds.items feeds.new.feeds.items (K.state out.old) (K.state out.new) result.ended }
+    ensures outcome { AllTold feeds.old.feeds.items → IfOk result.ended (λ gathered. IsOutcome (job_by (Some steps.now) writing core) (files_of feeds.old.feeds.items) (tallies_in feeds.new.feeds.items) gathered) }
+    ensures enabled { AllTold feeds.old.feeds.items → OnOk result.ended (IsEnabled (job_by (Some steps.now) writing core) (files_of feeds.old.feeds.items)) }
+    ensures stands { AllTold feeds.old.feeds.items → OnOk result.ended (StandsFor result.core (history_of (job_by (Some steps.now) writing core) (files_of feeds.old.feeds.items))) }
+    ensures taken { OnOk result.ended (AreAllTaken feeds.new.feeds.items) }
+    ensures has_taken { IfOk result.ended (λ gathered. HasTaken writing.form gathered.results) }
+    ensures causes { IfErr result.ended (λ stop. TurnsCause stop (job_by (Some steps.now) writing core) feeds.old.feeds.items feeds.new.feeds.items (K.state out.old) (K.state out.new)) }
     ensures later { (K.state out.old).faults ≤ (K.state out.new).faults }
-    ensures asked { IfOk result (λ done. done.gathered.accepted.asked ≡ writing.check) }
-    ensures enabled { AllTold feeds.old.feeds.items → OnOk result (refused_line (job_in writing core) (files_of feeds.old.feeds.items) steps.now ≡ None) }
-    ensures lines { WritesReplay (replay_on writing core steps.now feeds.old.feeds.items (K.state out.old)) (K.state out.new) result }
-    ensures stops { IfErr result (λ stop. StopsReplay stop (replay_on writing core steps.now feeds.old.feeds.items (K.state out.old)) feeds.new.feeds.items (K.state out.new)) }
-    ensures outcome { IfOk result (λ done. EndsRun (replay_on writing core steps.now feeds.old.feeds.items (K.state out.old)) done.core feeds.new.feeds.items done.gathered) }
-    ensures taken { OnOk result (AreAllTaken feeds.new.feeds.items) }
 {
     let accepted = match AcceptedRows::new(alloc, writing.check, feeds.feeds.as_slice().len()) {
         Ok(accepted) => accepted,
         Err(NoMemory) => {
-            return Err(ReplayStop::Run {
-                stop: RunStop::NoMemory,
-            });
+            return Replayed {
+                core,
+                ended: Err(RunStop::NoMemory),
+            };
         }
     };
     let results = ResultWriter::new(alloc, writing.form);
     let mut gathered = Gathered { results, accepted };
     let mut hand = Hand::new(alloc, core);
-    play(alloc, &mut hand, feeds, &mut gathered, steps, text, out)?;
-    match finish_turns(alloc, hand, feeds, gathered, text, out) {
-        Ok(done) => Ok(done),
-        Err(stop) => Err(ReplayStop::Run { stop }),
+    match play(alloc, &mut hand, feeds, &mut gathered, steps, text, out) {
+        Ok(()) => finish_turns(alloc, hand, feeds, gathered, text, out),
+        Err(stop) => Replayed {
+            core: hand.into_core(),
+            ended: Err(stop),
+        },
     }
 }
 
@@ -88,23 +98,40 @@ fn finish_turns<S: Source, K: Sink>(
     mut gathered: Gathered,
     text: &mut Items<u8>,
     out: &mut K,
-) -> Result<Replayed, RunStop>
+) -> Replayed
     requires ready { IsReady (stage hand feeds.old.feeds.items gathered (K.state out.old)) }
     requires first { feeds.old.at ≡ 0 }
-    ensures plan { IfOk result (λ done. done.core.plan ≡ hand.core.plan) }
-    ensures on { IfOk result (λ done. done.core.kept.stop ≡ None) }
+    ensures plan { result.core.plan ≡ hand.core.plan }
+    ensures on { OnOk result.ended (result.core.kept.stop ≡ None) }
     ensures same { AreSameFeeds feeds.old.feeds.items feeds.new.feeds.items }
     ensures told { IsTrue (K.state out.new).told → IsTrue (K.state out.old).told }
-    ensures asked { IfOk result (λ done. done.gathered.accepted.asked ≡ gathered.accepted.asked) }
-    ensures lines { WherePlayed (stage hand feeds.old.feeds.items gathered (K.state out.old)) (λ run. WritesRun run (K.state out.new) result) }
-    ensures ends { WherePlayed (stage hand feeds.old.feeds.items gathered (K.state out.old)) (λ run. IfErr result (λ stop. StopsRun stop run feeds.new.feeds.items (K.state out.new))) }
-    ensures outcome { IfOk result (λ done. WherePlayed (stage hand feeds.old.feeds.items gathered (K.state out.old)) (λ run. EndsRun run done.core feeds.new.feeds.items done.gathered)) }
-    ensures causes { WherePlayed (stage hand feeds.old.feeds.items gathered (K.state out.old)) (λ run. IfErr result (λ stop. StopCause stop run feeds.new.feeds.items (K.state out.new))) }
-    ensures taken { OnOk result (AreAllTaken feeds.new.feeds.items) }
+    ensures lines { WherePlayed (stage hand feeds.old.feeds.items gathered (K.state out.old)) (λ run. WritesRun run (K.state out.new) result.ended) }
+    ensures whole { HasShortNames hand.core.plan.nodes → WritesWhole run_cut (K.state out.old) (K.state out.new) result.ended }
+    ensures ends { WherePlayed (stage hand feeds.old.feeds.items gathered (K.state out.old)) (λ run. StopsRun run feeds.new.feeds.items (K.state out.new) result.ended) }
+    ensures outcome { WherePlayed (stage hand feeds.old.feeds.items gathered (K.state out.old)) (λ run. AllTold run.feeds → IfOk result.ended (λ all. IsOutcome run.job (files_of run.feeds) (tallies_in feeds.new.feeds.items) all)) }
+    ensures stands { WherePlayed (stage hand feeds.old.feeds.items gathered (K.state out.old)) (λ run. AllTold run.feeds → OnOk result.ended (StandsFor result.core (whole_of run))) }
+    ensures causes { WherePlayed (stage hand feeds.old.feeds.items gathered (K.state out.old)) (λ run. IfErr result.ended (λ stop. StopCause stop run feeds.new.feeds.items (K.state out.new))) }
+    ensures taken { OnOk result.ended (AreAllTaken feeds.new.feeds.items) }
+    ensures has_taken { (form : Form) → HasTaken form gathered.results → IfOk result.ended (λ all. HasTaken form all.results) }
     ensures later { (K.state out.old).faults ≤ (K.state out.new).faults }
 {
-    settle(alloc, &mut hand, &mut gathered.results, text, out)?;
-    let mut core = hand.into_core();
-    go_on(alloc, &mut core, feeds, &mut gathered, text, out)?;
-    Ok(Replayed { core, gathered })
+    match settle(alloc, &mut hand, &mut gathered.results, text, out) {
+        Ok(()) => {
+            let mut core = hand.into_core();
+            match go_on(alloc, &mut core, feeds, &mut gathered, text, out) {
+                Ok(()) => Replayed {
+                    core,
+                    ended: Ok(gathered),
+                },
+                Err(why) => Replayed {
+                    core,
+                    ended: Err(why),
+                },
+            }
+        }
+        Err(stop) => Replayed {
+            core: hand.into_core(),
+            ended: Err(RunStop::from(stop)),
+        },
+    }
 }

@@ -4,11 +4,10 @@ ghost use Rattle.pj_feed.specs.Feeds.{AreSameFeeds, FeedState};
 ghost use Rattle.pj_script.specs.Reading.{AreStepsOf};
 ghost use Rattle.pj_replay.specs.Playing.{IsReady, stage};
 ghost use Rattle.pj_replay.specs.Plays.{EndsSteps, HasPlayed, HasStopped, StopsReplay, StopsSteps, failed_behind, is_over, left_of};
-ghost use Rattle.pj_replay.specs.Goes.{Replay};
+ghost use Rattle.pj_run.specs.Goes.{RunStart};
 
 use crate::settling::drain;
 use crate::stepping::make_step;
-use crate::stops::ReplayStop;
 use pj_core::Stop;
 use pj_feed::Feeds;
 use pj_hand::Hand;
@@ -23,7 +22,8 @@ use std::alloc::Global;
 /// is written, and handed on before a read.
 ///
 /// At `Refused`, and where a stream's turn could not be made or an element went beyond a limit, exactly what was handed out until then
-/// is written first; where that fails, `WriteFailed` comes, or `Cut` behind a limit. Where memory is wanting nothing more is written.
+/// is written first; where memory was wanting in a step, as much of it as memory suffices for. Where the output fails then,
+/// `CutRefused`, `CutRead`, `CutLarge` or `Cut` tells the stop that came before.
 pub fn play<S: Source, K: Sink>(
     alloc: Global,
     hand: &mut Hand,
@@ -32,9 +32,10 @@ pub fn play<S: Source, K: Sink>(
     steps: &[(u64, ScriptStep)],
     text: &mut Items<u8>,
     out: &mut K,
-) -> Result<(), ReplayStop>
+) -> Result<(), RunStop>
     requires ready { IsReady (stage hand.old feeds.old.feeds.items gathered.old (K.state out.old)) }
     requires fits { AreStepsOf hand.old.core.plan.nodes steps.now }
+    ensures plan { hand.new.core.plan ≡ hand.old.core.plan }
     ensures ok { OnOk result (HasPlayed (stage hand.old feeds.old.feeds.items gathered.old (K.state out.old)) (stage hand.new feeds.new.feeds.items gathered.new (K.state out.new)) steps.now) }
     ensures err { IfErr result (λ stop. EndsSteps stop (stage hand.old feeds.old.feeds.items gathered.old (K.state out.old)) feeds.new.feeds.items (K.state out.new) steps.now) }
     ensures at { feeds.new.at ≡ feeds.old.at }
@@ -48,16 +49,17 @@ pub fn play<S: Source, K: Sink>(
     }
 }
 
-// Writes what was handed out until a stop, unless nothing more is to be written.
+// Writes what was handed out until a stop, unless that is a failed write.
 fn leave<K: Sink>(
     alloc: Global,
     hand: &mut Hand,
     gathered: &mut Gathered,
-    stop: ReplayStop,
+    stop: RunStop,
     text: &mut Items<u8>,
     out: &mut K,
-) -> ReplayStop
-    ensures stops { (run : Replay) (feeds : List FeedState) → HasStopped stop run (stage hand.old feeds gathered.old (K.state out.old)) → StopsReplay result run feeds (K.state out.new) }
+) -> RunStop
+    ensures plan { hand.new.core.plan ≡ hand.old.core.plan }
+    ensures stops { (run : RunStart) (feeds : List FeedState) → HasStopped stop run (stage hand.old feeds gathered.old (K.state out.old)) → StopsReplay result run feeds (K.state out.new) }
     ensures told { IsTrue (K.state out.new).told → IsTrue (K.state out.old).told }
     ensures later { (K.state out.old).faults ≤ (K.state out.new).faults }
 {
@@ -69,53 +71,53 @@ fn leave<K: Sink>(
 }
 
 // Whether nothing more is to be written.
-fn is_over(stop: ReplayStop) -> bool
+fn is_over(stop: RunStop) -> bool
     ensures { result ≡ is_over stop }
 {
     match stop {
-        ReplayStop::Refused { .. } => false,
-        ReplayStop::Run { stop } => match stop {
-            RunStop::ReadFault { .. } => false,
-            RunStop::TooLarge { .. } => false,
-            RunStop::Limit { .. } => false,
-            RunStop::WriteFailed => true,
-            RunStop::NoMemory => true,
-            RunStop::Cut { .. } => true,
-        },
+        RunStop::ReadFault { .. } => false,
+        RunStop::TooLarge { .. } => false,
+        RunStop::Limit { .. } => false,
+        RunStop::Refused { .. } => false,
+        RunStop::WriteFailed => true,
+        RunStop::NoMemory => false,
+        RunStop::Cut { .. } => true,
+        RunStop::CutRead { .. } => true,
+        RunStop::CutLarge { .. } => true,
+        RunStop::CutRefused { .. } => true,
     }
 }
 
 // A stop behind which what was handed out until then was written or not.
-fn left_by(stop: ReplayStop, written: Result<(), WriteStop>) -> ReplayStop
+fn left_by(stop: RunStop, written: Result<(), WriteStop>) -> RunStop
     ensures { result ≡ left_of stop written }
 {
     match written {
         Ok(()) => stop,
-        Err(WriteStop::NoMemory) => ReplayStop::Run {
-            stop: RunStop::NoMemory,
-        },
-        Err(WriteStop::Failed) => ReplayStop::Run {
-            stop: failed_behind(stop),
-        },
+        Err(WriteStop::NoMemory) => RunStop::NoMemory,
+        Err(WriteStop::Failed) => failed_behind(stop),
     }
 }
 
 // The output failed behind a stop.
-fn failed_behind(stop: ReplayStop) -> RunStop
+fn failed_behind(stop: RunStop) -> RunStop
     ensures { result ≡ failed_behind stop }
 {
     match stop {
-        ReplayStop::Refused { .. } => RunStop::WriteFailed,
-        ReplayStop::Run { stop } => match stop {
-            RunStop::ReadFault { .. } => RunStop::WriteFailed,
-            RunStop::TooLarge { .. } => RunStop::WriteFailed,
-            RunStop::Limit { node } => RunStop::Cut {
-                stop: Stop::Limit { node },
-            },
-            RunStop::WriteFailed => RunStop::WriteFailed,
-            RunStop::NoMemory => RunStop::WriteFailed,
-            RunStop::Cut { .. } => RunStop::WriteFailed,
+        RunStop::ReadFault { stream } => RunStop::CutRead { stream },
+        RunStop::TooLarge { stream } => RunStop::CutLarge { stream },
+        RunStop::Limit { node } => RunStop::Cut {
+            stop: Stop::Limit { node },
         },
+        RunStop::Refused { line } => RunStop::CutRefused { line },
+        RunStop::WriteFailed => RunStop::WriteFailed,
+        RunStop::NoMemory => RunStop::Cut {
+            stop: Stop::NoMemory,
+        },
+        RunStop::Cut { .. } => RunStop::WriteFailed,
+        RunStop::CutRead { .. } => RunStop::WriteFailed,
+        RunStop::CutLarge { .. } => RunStop::WriteFailed,
+        RunStop::CutRefused { .. } => RunStop::WriteFailed,
     }
 }
 
@@ -128,9 +130,10 @@ fn play_steps<S: Source, K: Sink>(
     steps: &[(u64, ScriptStep)],
     text: &mut Items<u8>,
     out: &mut K,
-) -> Result<(), ReplayStop>
+) -> Result<(), RunStop>
     requires ready { IsReady (stage hand.old feeds.old.feeds.items gathered.old (K.state out.old)) }
     requires fits { AreStepsOf hand.old.core.plan.nodes steps.now }
+    ensures plan { hand.new.core.plan ≡ hand.old.core.plan }
     ensures ok { OnOk result (HasPlayed (stage hand.old feeds.old.feeds.items gathered.old (K.state out.old)) (stage hand.new feeds.new.feeds.items gathered.new (K.state out.new)) steps.now) }
     ensures err { IfErr result (λ stop. StopsSteps stop (stage hand.old feeds.old.feeds.items gathered.old (K.state out.old)) (stage hand.new feeds.new.feeds.items gathered.new (K.state out.new)) steps.now) }
     ensures at { feeds.new.at ≡ feeds.old.at }
@@ -142,8 +145,8 @@ fn play_steps<S: Source, K: Sink>(
         let (line, step) = *item;
         match make_step(alloc, hand, feeds, gathered, step, text, out) {
             Ok(true) => {}
-            Ok(false) => return Err(ReplayStop::Refused { line }),
-            Err(stop) => return Err(ReplayStop::Run { stop }),
+            Ok(false) => return Err(RunStop::Refused { line }),
+            Err(stop) => return Err(stop),
         }
     }
     Ok(())

@@ -9,6 +9,9 @@ ghost use Rattle.pj_hand.specs.Steps.{HandNotes};
 ghost use Rattle.pj_io.specs.Causes.{Rose};
 ghost use Rattle.pj_report.specs.Forms.{TakesMore, shown};
 ghost use Rattle.pj_report.specs.Written.{WritesBy, write_cut};
+ghost use Rattle.pj_run.specs.Cuts.{turn_cut};
+ghost use Rattle.pj_run.specs.PlanNames.{HasShortNames};
+ghost use Rattle.pj_run.specs.Whole.{WritesWhole};
 ghost use Rattle.pj_replay.specs.Settles.{Settled, SettlesInto, SettleStopsBehind, SettleWrites};
 
 use pj_core::{Out, Stop};
@@ -57,6 +60,7 @@ pub fn settle<K: Sink>(
     ensures plan { hand.new.core.plan ≡ hand.old.core.plan }
     ensures told { IsTrue (K.state out.new).told → IsTrue (K.state out.old).told }
     ensures lines { SettleWrites results.old.form hand.old (K.state out.old) (K.state out.new) result }
+    ensures whole { HasShortNames hand.old.core.plan.nodes → WritesWhole turn_cut (K.state out.old) (K.state out.new) result }
     ensures done { OnOk result (SettlesInto hand.old hand.new results.old results.new) }
     ensures form { results.new.form ≡ results.old.form }
     ensures stops { IfErr result (λ stop. SettleStopsBehind stop results.old.form hand.old (K.state out.old) (K.state out.new)) }

@@ -2,8 +2,8 @@
 use Rattle.pj_run.specs.Jobs.{Job}
 use Rattle.pj_plan.specs.declared.node.PlanNode.{PlanNode}
 use Rattle.pj_plan.specs.Nodes.{stream_columns, streams_in}
-use Rattle.std.proofs.Common.{◌≡◌, ◌≤◌, ◌+◌, ◌^◌, ℕ, inl, inr, List, [], ◌∷◌, ◌++◌, take, length, get_or, Err, IsTrue, refl, ap, ap₂, sym, ◌∙◌, subst, arith}
-use Rattle.std.specs.Prelude.{slice_index_or}
+use Rattle.std.proofs.Common.{◌≡◌, ◌≤◌, ◌+◌, ◌^◌, ℕ, inl, inr, List, [], ◌∷◌, ◌++◌, take, length, get_or, Some, Err, IsTrue, refl, ap, ap₂, sym, ◌∙◌, subst, arith}
+use Rattle.std.specs.Prelude.{slice_get, slice_index_or}
 use Rattle.std.proofs.Math.Seq.{take-append_seam}
 use Rattle.pj_io.specs.Causes.{Rose}
 use Rattle.pj_io.specs.Folders.{NoneFalls, SameEverywhere}
@@ -12,13 +12,13 @@ use Rattle.pj_shape.specs.declared.columns.Column.{Column}
 use Rattle.pj_feed.specs.declared.stops.OpeningStop.{OpeningStop}
 use Rattle.pj_feed.specs.declared.stops.OpeningStop.TheVariants.{Fault, NoMemory as OpeningMemory}
 use Rattle.pj_run.specs.declared.stops.RunStop.{RunStop}
-use Rattle.pj_run.specs.declared.stops.RunStop.TheVariants.{ReadFault, TooLarge, Limit, WriteFailed, NoMemory, Cut as RunCut}
+use Rattle.pj_run.specs.declared.stops.RunStop.TheVariants.{ReadFault, TooLarge, Limit, Refused, WriteFailed, NoMemory, Cut as RunCut, CutRead, CutLarge, CutRefused}
 use Rattle.pj_run.specs.declared.stops.FilesStop.TheVariants.{Opening, Run}
 use Rattle.pj_feed.specs.Named.{AreTold, files_named}
-use Rattle.pj_feed.specs.Feeds.{FeedState, files_of, fed_elements, AreFeeds, AllTold}
+use Rattle.pj_feed.specs.Feeds.{FeedState, bytes_of, files_of, fed_elements, AreFeeds, AllTold}
 use Rattle.pj_feed.specs.Opened.{AreFeedsOf, StayOutside, names_in, NoneNamed, IsLast, HasLasts, TriesAtMost, IsFaultAt}
-use Rattle.pj_run.specs.RunEnds.{AreRead, CutCause, FeedsCause, FeedsEnd, FilesCause, FilesEnd, FilesOpened}
-use Rattle.pj_run.specs.Runs.{GoesBeyond}
+use Rattle.pj_run.specs.RunEnds.{AreRead, CutCause, FeedsCause, FeedsEnd, FilesCause, FilesEnd, FilesOpened, IsFaultOf, IsLargeFile}
+use Rattle.pj_run.specs.Runs.{GoesBeyond, refused_line}
 use Rattle.pj_feed.specs.Opened.{AreReadToEnd}
 use Rattle.pj_run.specs.Turning.{TurnsEnd}
 use Rattle.pj_feed.proofs.Outside.{close_stays, close_tries}
@@ -76,27 +76,50 @@ run_end stop job names old mid after feeds written lines opened are_told e = go 
         )
     go (TooLarge stream) ends = ends
     go (Limit node) ends = ends
+    go (Refused line) ends = ends
     go WriteFailed ends = tt
     go NoMemory ends = tt
     go (RunCut stop) ends = ends
+    go (CutRead stream) ends = ends
+    go (CutLarge stream) ends = ends
+    go (CutRefused line) ends = ends
 
--- why the turns stopped is why the run stopped
-pub run_cause : (stop : RunStop) (job : Job) (names : List (List ℕ)) (old mid after : FolderState) (feeds : List FeedState) (sink sink' : SinkState) → AreAllOpened job names old feeds → NoneFalls old.faults mid.faults
-    → FeedsCause stop job feeds mid after sink sink' → FilesCause (Run stop) job names old after sink sink'
-run_cause (ReadFault stream) job names old mid after feeds sink sink' opened falls cause =
+-- the faults of the file of this name rose
+fault_there : (stream : ℕ) (job : Job) (names : List (List ℕ)) (old mid after : FolderState) (feeds : List FeedState) → AreAllOpened job names old feeds → NoneFalls old.faults mid.faults
+    → (feed : FeedState) × (slice_get feeds stream ≡ Some feed) × Rose (mid.faults feed.source.name) (after.faults feed.source.name) → IsFaultOf stream names old after
+fault_there stream job names old mid after feeds opened falls cause =
     let at = named_of 0 (streams_in job.nodes) names old feeds stream cause.0 opened.of cause.1 in
     let name : List ℕ = cause.0.source.name in
     let up = falls name in
     let rose = cause.2 in
     record { there = at.there; rose = subst (λ (n : List ℕ). Rose (old.faults n) (after.faults n)) at.named (omega (arith, up, rose)) }
-run_cause (TooLarge stream) job names old mid after feeds sink sink' opened falls cause =
+
+-- the file of this name is too large
+large_there : (stream : ℕ) (job : Job) (names : List (List ℕ)) (old : FolderState) (feeds : List FeedState) → AreAllOpened job names old feeds
+    → (feed : FeedState) × (slice_get feeds stream ≡ Some feed) × (IsTrue feed.source.told → 2 ^ 40 ≤ length (bytes_of feed)) → IsLargeFile stream names old
+large_there stream job names old feeds opened cause =
     let at = named_of 0 (streams_in job.nodes) names old feeds stream cause.0 opened.of cause.1 in
     record { there = at.there; bytes = λ t. subst (λ (xs : List ℕ). 2 ^ 40 ≤ length xs) (at.bytes t) (cause.2 (at.told t)) }
+
+-- the line of the step that is not enabled
+refused_there : (line : ℕ) (job : Job) (names : List (List ℕ)) (old : FolderState) (feeds : List FeedState) → AreAllOpened job names old feeds → (AllTold feeds → refused_line job (files_of feeds) ≡ Some line)
+    → AreTold names old → refused_line job (files_named names old) ≡ Some line
+refused_there line job names old feeds opened cause told = subst (λ (fs : List (List ℕ)). refused_line job fs ≡ Some line) (opened.told told).1 (cause (opened.told told).0)
+
+-- why the turns stopped is why the run stopped
+pub run_cause : (stop : RunStop) (job : Job) (names : List (List ℕ)) (old mid after : FolderState) (feeds : List FeedState) (sink sink' : SinkState) → AreAllOpened job names old feeds → NoneFalls old.faults mid.faults
+    → FeedsCause stop job feeds mid after sink sink' → FilesCause (Run stop) job names old after sink sink'
+run_cause (ReadFault stream) job names old mid after feeds sink sink' opened falls cause = fault_there stream job names old mid after feeds opened falls cause
+run_cause (TooLarge stream) job names old mid after feeds sink sink' opened falls cause = large_there stream job names old feeds opened cause
 run_cause (Limit node) job names old mid after feeds sink sink' opened falls cause = λ told. subst (λ (fs : List (List ℕ)). GoesBeyond job fs node) (opened.told told).1 (cause (opened.told told).0)
+run_cause (Refused line) job names old mid after feeds sink sink' opened falls cause = (cause.0, refused_there line job names old feeds opened cause.1)
 run_cause WriteFailed job names old mid after feeds sink sink' opened falls cause = cause
 run_cause NoMemory job names old mid after feeds sink sink' opened falls cause = tt
 run_cause (RunCut stop) job names old mid after feeds sink sink' opened falls cause =
     (cause.0, λ told. subst (λ (fs : List (List ℕ)). CutCause stop job fs) (opened.told told).1 (cause.1 (opened.told told).0))
+run_cause (CutRead stream) job names old mid after feeds sink sink' opened falls cause = (cause.0, fault_there stream job names old mid after feeds opened falls (cause.1, cause.2, cause.3))
+run_cause (CutLarge stream) job names old mid after feeds sink sink' opened falls cause = (cause.0, large_there stream job names old feeds opened (cause.1, cause.2, cause.3))
+run_cause (CutRefused line) job names old mid after feeds sink sink' opened falls cause = (cause.0, cause.1, refused_there line job names old feeds opened cause.2)
 
 each_read : (folder after : FolderState) (before : List ℕ → ℕ) (news feeds : List FeedState) (names : List (List ℕ)) → ((name : List ℕ) → IsTrue (folder.told name) → IsLast name (length (folder.contents name)) news (before name) (after.last name))
     → ((name : List ℕ) → NoneNamed name news → NoneNamed name feeds) → AreNamed feeds names → length feeds ≡ length names → AreReadToEnd names folder after

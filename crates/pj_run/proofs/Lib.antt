@@ -5,6 +5,8 @@ pub mod Carried
 pub mod Ending
 pub mod FeedTurns
 pub mod FilesRun
+pub mod Going
+pub mod GoingTurns
 pub mod JoinNodes
 pub mod Keeping
 pub mod Notes
@@ -15,4 +17,5 @@ pub mod Running
 pub mod Tallies
 pub mod TurnLaws
 pub mod WholeLaws
+pub mod Stepped
 pub mod StreamNodes

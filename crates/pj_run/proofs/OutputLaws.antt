@@ -1,5 +1,5 @@
--- What holds of the outputs of a plan's run on one thread.
-use Rattle.std.proofs.Common.{◌≡◌, ◌<◌, ℕ, zero, suc, true, List, [], ◌∷◌, ◌++◌, map, length, get_or, refl, ap, sym, ◌∙◌, subst, arith, zero-add}
+-- What holds of the outputs of a plan's run, on one thread or by a script.
+use Rattle.std.proofs.Common.{◌≡◌, ◌<◌, ℕ, zero, suc, true, List, [], ◌∷◌, ◌++◌, map, length, get_or, Option, Some, None, refl, ap, sym, ◌∙◌, subst, arith, zero-add}
 use Rattle.std.proofs.lemmas.List.{get_or_default, length-map, same_lists}
 use Rattle.pj_value.specs.Bags.{SameBag}
 use Rattle.pj_shape.specs.declared.columns.Column.{Column}
@@ -11,35 +11,74 @@ use Rattle.pj_run.specs.Jobs.{Job}
 use Rattle.pj_plan.specs.declared.node.PlanNode.{PlanNode}
 use Rattle.pj_events.specs.Join.{upto_from}
 use Rattle.pj_events.specs.Plan.{Node}
-use Rattle.pj_events.specs.History.{streams_of}
+use Rattle.pj_events.specs.History.{IsLegal, streams_of}
 use Rattle.pj_laws.specs.HistoryLaws.{IsWholeRun, closed_list, closed_lists}
 use Rattle.pj_events.specs.Limits.{ReachesLimit}
 use Rattle.pj_events.specs.Punctuations.{puncts_answer}
-use Rattle.pj_laws.specs.Reaching.{elements_to as coming_to}
+use Rattle.pj_laws.specs.Reaching.{IsCounted, elements_to as coming_to}
 use Rattle.pj_laws.proofs.HistoryAnswers.{hands_out-lawfully}
-use Rattle.pj_laws.proofs.HistoryPuncts.{swept-is-puncts}
 use Rattle.pj_laws.proofs.OneThreadAnswer.{swept-whole}
 use Rattle.pj_laws.proofs.Reaching.{limits-tell}
-use Rattle.pj_laws.proofs.SweptRun.{swept-groups}
+use Rattle.pj_laws.proofs.SweptRun.{swept-complete}
 use Rattle.pj_join_laws.proofs.Upto.{get_or-upto, length-upto}
 use Rattle.pj_plan.specs.Nodes.{stream_columns, streams_in}
-use Rattle.pj_run.specs.Runs.{elements_of, history_of, outputs_of, plan_run, run_nodes, with_closings, GoesBeyond, IsAnswer, ArePunctuations}
+use Rattle.pj_script.specs.declared.step.ScriptStep.{ScriptStep}
+use Rattle.pj_script.specs.Playing.{AllFit}
+use Rattle.pj_script_laws.specs.Laws.{HandsOutAnswer, IsWholeOf, MayPlay}
+use Rattle.pj_script_laws.proofs.Whole.{answer-of, scripted-is-complete, scripted-is-legal, scripted-limits-tell}
+use Rattle.pj_run.specs.Runs.{elements_of, history_by, history_of, outputs_of, plan_run, refused_by, run_nodes, with_closings, GoesBeyond, IsAnswer, IsEnabled, ArePunctuations}
 use Rattle.pj_core_laws.proofs.PlainAnswers.{answers-are-plain, counts-are-plain, punctuations-are-plain, counted-are-plain}
 use Rattle.pj_feed.specs.Feeds.{accepted_of}
 use Rattle.pj_run.proofs.Accepting.{accepted_lists, count-streams, schema-is}
-use Rattle.pj_run.proofs.Planned.{IsPlanned}
+use Rattle.pj_run.proofs.Planned.{FitsBy, IsPlanned}
 
--- the history is legal and whole
-pub whole_run : (job : Job) (files : List (List ℕ)) → IsPlanned job → IsWholeRun true (run_nodes job) (accepted_of (streams_in job.nodes) files)
-whole_run job files p = swept-whole (run_nodes job) p.well_made p.certified (accepted_of (streams_in job.nodes) files) (accepted_lists job files)
+-- ---- the history
+
+module _ (job : Job) (files : List (List ℕ)) (p : IsPlanned job) where
+  abbrev nodes : List Node
+  nodes = run_nodes job
+
+  abbrev accepted : List (List Element)
+  accepted = accepted_of (streams_in job.nodes) files
+
+  on-one-thread : IsWholeRun true nodes accepted
+  on-one-thread = swept-whole nodes p.well_made p.certified accepted (accepted_lists job files)
+
+  may : (steps : List (ℕ × ScriptStep)) → AllFit nodes steps → MayPlay nodes accepted steps
+  may steps fit = record { accepted = accepted_lists job files; fit = fit }
+
+  legal-by : (script : Option (List (ℕ × ScriptStep))) → FitsBy script nodes → IsLegal nodes (history_by script nodes accepted)
+  legal-by None fit = on-one-thread.legal
+  legal-by (Some steps) fit = (scripted-is-legal (plan_run job) p.sound p.certified accepted steps (may steps fit)).legal
+
+  whole-by : (script : Option (List (ℕ × ScriptStep))) → FitsBy script nodes → refused_by script nodes accepted ≡ None → IsWholeOf nodes accepted (history_by script nodes accepted)
+  whole-by None fit enabled = record { complete = swept-complete nodes p.well_made p.some p.certified accepted (accepted_lists job files); arrived = on-one-thread.elements }
+  whole-by (Some steps) fit enabled = scripted-is-complete (plan_run job) p.sound p.certified accepted steps (may steps fit) enabled
+
+  -- a step that brings the first element beyond the limit does so at a join or a group, to which more elements come in all
+  tells-by : (script : Option (List (ℕ × ScriptStep))) → FitsBy script nodes → (node : ℕ) → ReachesLimit job.limit nodes (history_by script nodes accepted) node
+      → IsCounted nodes node × (job.limit < coming_to nodes (map rows_of accepted) (map puncts_of (closed_lists nodes accepted)) node)
+  tells-by None fit node r = limits-tell nodes p.well_made p.tree p.some p.certified accepted (accepted_lists job files) job.limit node r
+  tells-by (Some steps) fit node r = scripted-limits-tell (plan_run job) p.sound p.certified p.tree accepted steps (may steps fit) job.limit node r
+
+  -- the history is legal
+  pub legal_run : IsLegal nodes (history_of job files)
+  legal_run = legal-by job.script p.fit
+
+  -- and whole, where every step of its script is enabled
+  pub whole_run : IsEnabled job files → IsWholeOf nodes accepted (history_of job files)
+  whole_run enabled = whole-by job.script p.fit enabled
 
 pub outputs_lawful : (job : Job) (files : List (List ℕ)) → IsPlanned job → IsLawful (outputs_of job files)
-outputs_lawful job files p = hands_out-lawfully (run_nodes job) p.well_made p.some job.trace (history_of job files) (whole_run job files p).legal
+outputs_lawful job files p = hands_out-lawfully (run_nodes job) p.well_made p.some job.trace (history_of job files) (legal_run job files p)
 
-pub outputs_answer : (job : Job) (files : List (List ℕ)) → IsPlanned job → (report : List (List ℕ)) → IsAnswer job files (outputs_of job files) report
-outputs_answer job files p report =
-    subst (SameBag (rows_of (outputs_of job files))) (answers-are-plain (plan_run job) (map rows_of (accepted_of (streams_in job.nodes) files))).answer
-    (swept-groups (run_nodes job) p.well_made p.some p.certified (accepted_of (streams_in job.nodes) files) (accepted_lists job files) job.trace)
+handed-out : (job : Job) (files : List (List ℕ)) → IsPlanned job → IsEnabled job files → HandsOutAnswer job.trace (run_nodes job) (accepted_of (streams_in job.nodes) files) (history_of job files)
+handed-out job files p enabled =
+    answer-of (plan_run job) p.sound p.certified (accepted_of (streams_in job.nodes) files) (accepted_lists job files) (history_of job files) (legal_run job files p) (whole_run job files p enabled) job.trace
+
+pub outputs_answer : (job : Job) (files : List (List ℕ)) → IsPlanned job → IsEnabled job files → (report : List (List ℕ)) → IsAnswer job files (outputs_of job files) report
+outputs_answer job files p enabled report =
+    subst (SameBag (rows_of (outputs_of job files))) (answers-are-plain (plan_run job) (map rows_of (accepted_of (streams_in job.nodes) files))).answer (handed-out job files p enabled).rows
 
 -- ---- punctuations
 
@@ -85,19 +124,18 @@ closed_so job files = same_lists (closed_lists nodes lists) (elements_of job fil
         ∙ (ap (λ (ks : List Column). get_or lists k [] ++ Punct (closing ks) ∷ []) (schema-is job k (length nodes) there)
         ∙ (sym (closing_at streams lists k there) ∙ get_or_default (elements_of job files) k [] d (omega (arith, there, long)))))
 
-pub outputs_puncts : (job : Job) (files : List (List ℕ)) → IsPlanned job → (report : List (List ℕ)) → ArePunctuations job files (outputs_of job files) report
-outputs_puncts job files p report =
+pub outputs_puncts : (job : Job) (files : List (List ℕ)) → IsPlanned job → IsEnabled job files → (report : List (List ℕ)) → ArePunctuations job files (outputs_of job files) report
+outputs_puncts job files p enabled report =
     subst (SameBag (puncts_of (outputs_of job files)))
     (ap (λ (ls : List (List Element)). puncts_answer (run_nodes job) (map puncts_of ls)) (closed_so job files) ∙ (punctuations-are-plain (plan_run job) (map puncts_of (elements_of job files))).output)
-    (swept-is-puncts (run_nodes job) p.well_made p.some p.certified (accepted_of (streams_in job.nodes) files) (accepted_lists job files) job.trace)
+    (handed-out job files p enabled).punctuations
 
 -- ---- limits
 
--- a step that brings the first element beyond the limit does so at a join or a group, to which more elements come in all
 pub goes_beyond : (job : Job) (files : List (List ℕ)) → IsPlanned job → (node : ℕ) → ReachesLimit job.limit (run_nodes job) (history_of job files) node → GoesBeyond job files node
 goes_beyond job files p node r =
     let lists : List (List Element) = accepted_of (streams_in job.nodes) files in
-    let t = limits-tell (run_nodes job) p.well_made p.tree p.some p.certified lists (accepted_lists job files) job.limit node r in
+    let t = tells-by job files p job.script p.fit node r in
     record {
       reaches = r;
       counted = sym (counted-are-plain (plan_run job) node) ∙ t.0;

@@ -1,17 +1,15 @@
 -- A run over feeds, once their files are closed.
 use Rattle.pj_run.specs.Jobs.{Job}
-use Rattle.std.proofs.Common.{◌≡◌, ◌≤◌, ℕ, List, [], ◌∷◌, refl, ap₂, subst, arith}
-use Rattle.pj_io.specs.Causes.{Rose}
+use Rattle.std.proofs.Common.{◌≡◌, ℕ, List, [], ◌∷◌, refl, ap₂, subst}
 use Rattle.pj_io.specs.States.{FolderState, SinkState}
 use Rattle.pj_run.specs.declared.stops.RunStop.{RunStop}
-use Rattle.pj_run.specs.declared.stops.RunStop.TheVariants.{ReadFault, TooLarge, Limit, WriteFailed, NoMemory, Cut as RunCut}
+use Rattle.pj_run.specs.declared.stops.RunStop.TheVariants.{ReadFault, TooLarge, Limit, Refused, WriteFailed, NoMemory, Cut as RunCut, CutRead, CutLarge, CutRefused}
 use Rattle.pj_report.specs.declared.stops.WriteStop.{WriteStop}
 use Rattle.pj_report.specs.declared.stops.WriteStop.TheVariants.{Failed, NoMemory as WriteMemory}
 use Rattle.pj_feed.specs.Feeds.{FeedState, AreSameFeeds}
 use Rattle.pj_feed.specs.Opened.{AreCounted, StayOutside, names_in}
 use Rattle.pj_run.specs.RunEnds.{TurnsCause, FeedsCause}
 use Rattle.pj_run.specs.Stops.{of_turn, of_write}
-use Rattle.pj_run.specs.Turning.{TurnsEnd}
 use Rattle.pj_run.specs.Cuts.{run_cut}
 use Rattle.pj_report.specs.Written.{write_cut}
 use Rattle.pj_run.proofs.Ending.{fault_of_name}
@@ -22,9 +20,14 @@ pub feeds_cause : (stop : RunStop) (job : Job) (olds news : List FeedState) (bef
 feeds_cause (ReadFault stream) job olds news before after old new same counted cause = fault_of_name olds news stream before.faults after.faults same counted cause
 feeds_cause (TooLarge stream) job olds news before after old new same counted cause = cause
 feeds_cause (Limit node) job olds news before after old new same counted cause = cause
+feeds_cause (Refused line) job olds news before after old new same counted cause = cause
 feeds_cause WriteFailed job olds news before after old new same counted cause = cause
 feeds_cause NoMemory job olds news before after old new same counted cause = tt
 feeds_cause (RunCut stop) job olds news before after old new same counted cause = cause
+feeds_cause (CutRead stream) job olds news before after old new same counted cause =
+    let f = fault_of_name olds news stream before.faults after.faults same counted (cause.1, cause.2, cause.3) in (cause.0, f.0, f.1, f.2)
+feeds_cause (CutLarge stream) job olds news before after old new same counted cause = cause
+feeds_cause (CutRefused line) job olds news before after old new same counted cause = cause
 
 -- the feeds that are closed have the names of those that were opened
 same_names : (olds news : List FeedState) → AreSameFeeds olds news → names_in news ≡ names_in olds
@@ -41,12 +44,3 @@ closed_others olds news before after same stay = subst (λ (names : List (List �
 pub report_cut : (why : WriteStop) → run_cut (of_turn (of_write why)) ≡ write_cut why
 report_cut Failed = refl
 report_cut WriteMemory = refl
-
-pub report_ends : (why : WriteStop) (job : Job) (files : List (List ℕ)) (feeds : List FeedState) (before lines : List ℕ) → TurnsEnd (of_turn (of_write why)) job files feeds before lines
-report_ends Failed job files feeds before lines = tt
-report_ends WriteMemory job files feeds before lines = tt
-
-pub report_cause : (why : WriteStop) (job : Job) (feeds : List FeedState) (before after : FolderState) (first old new : SinkState) → first.faults ≤ old.faults → (why ≡ Failed → Rose old.faults new.faults)
-    → FeedsCause (of_turn (of_write why)) job feeds before after first new
-report_cause Failed job feeds before after first old new later rose = let r = rose refl in omega (arith, r, later)
-report_cause WriteMemory job feeds before after first old new later rose = tt

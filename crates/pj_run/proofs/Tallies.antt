@@ -2,7 +2,7 @@
 use Rattle.pj_run.specs.Jobs.{Job}
 use Rattle.pj_plan.specs.declared.node.PlanNode.{PlanNode}
 use Rattle.pj_plan.specs.Nodes.{streams_of, streams_in}
-use Rattle.std.proofs.Common.{◌≡◌, ℕ, Bool, true, false, zero, suc, ◌+◌, ◌≤◌, ◌<◌, List, [], ◌∷◌, ◌++◌, length, take, drop, get_or, refl, ap, ap₂, sym, ◌∙◌, append_assoc, append-nil, subst, Result, arith}
+use Rattle.std.proofs.Common.{◌≡◌, ℕ, Bool, true, false, zero, suc, ◌+◌, ◌≤◌, ◌<◌, List, [], ◌∷◌, ◌++◌, length, take, drop, get_or, refl, ap, ap₂, sym, ◌∙◌, append_assoc, append-nil, subst, Option, None, Some, Result, arith}
 use Rattle.std.proofs.lemmas.List.{take_all}
 use Rattle.pj_element.specs.declared.tally.Tally.{Tally}
 use Rattle.pj_element.specs.Accepted.{tally_of, fates_of}
@@ -14,7 +14,7 @@ use Rattle.pj_core.specs.Plans.{RunPlan}
 use Rattle.pj_feed.specs.Feeds.{tallies_of}
 use Rattle.pj_run.specs.Outcome.{tally_lines, report_lines, Finishes, IsOutcome, WritesOf}
 use Rattle.pj_report.specs.Report.{stream_lines, results_line, results_text}
-use Rattle.pj_run.specs.Runs.{accepted_rows, check_in, streams_report, form_report, report_of, run_lines, history_of, outs_of, outputs_of, plan_run}
+use Rattle.pj_run.specs.Runs.{accepted_rows, check_in, streams_report, form_report, report_of, run_lines, due_lines, due_where, refused_line, history_of, outs_of, outputs_of, plan_run, IsEnabled}
 use Rattle.pj_report.specs.Forms.{shown, taken_so_far, total_in, withheld}
 use Rattle.pj_report.specs.Written.{WritesBy, write_cut}
 use Rattle.pj_report.specs.declared.stops.WriteStop.{WriteStop}
@@ -94,6 +94,18 @@ pub run_parts : (job : Job) (files : List (List ℕ)) → shown job.form job.nod
 run_parts job files =
     sym (append_assoc (shown job.form job.nodes (outs_of job files)) (withheld job.form (outputs_of job files)) (report_of job files (outputs_of job files)))
     ∙ ap (λ (ls : List (List ℕ)). ls ++ report_of job files (outputs_of job files)) (all_shown job.form job.nodes (outs_of job files))
+
+-- the lines of the turns are the first that are due
+pub due_parts : (job : Job) (files : List (List ℕ)) → (more : List (List ℕ)) × (shown job.form job.nodes (outs_of job files) ++ more ≡ due_lines job files)
+due_parts job files = go (refused_line job files)
+  where
+    go : (line : Option ℕ) → (more : List (List ℕ)) × (shown job.form job.nodes (outs_of job files) ++ more ≡ due_where line job files)
+    go None = (end_lines job files, run_parts job files)
+    go (Some line) = ([], append-nil (shown job.form job.nodes (outs_of job files)))
+
+-- where every step is enabled, all lines of the run are due
+pub due_enabled : (job : Job) (files : List (List ℕ)) → IsEnabled job files → run_lines job files ≡ due_lines job files
+due_enabled job files enabled = ap (λ (line : Option ℕ). due_where line job files) (sym enabled)
 
 pub four_parts : (xs ys zs ws : List (List ℕ)) → xs ++ (ys ++ (zs ++ ws)) ≡ xs ++ ys ++ zs ++ ws
 four_parts xs ys zs ws = sym (append_assoc xs ys (zs ++ ws)) ∙ sym (append_assoc (xs ++ ys) zs ws)

@@ -2,7 +2,7 @@
 use Rattle.pj_run.specs.declared.stops.TurnStop.{TurnStop}
 use Rattle.pj_run.specs.declared.stops.TurnStop.TheVariants.{Limit as TurnLimit, WriteFailed as TurnFailed, NoMemory as TurnMemory, Cut as TurnCut}
 use Rattle.pj_run.specs.declared.stops.RunStop.{RunStop}
-use Rattle.pj_run.specs.declared.stops.RunStop.TheVariants.{ReadFault, TooLarge, Limit, WriteFailed, NoMemory, Cut}
+use Rattle.pj_run.specs.declared.stops.RunStop.TheVariants.{ReadFault, TooLarge, Limit, Refused, WriteFailed, NoMemory, Cut, CutRead, CutLarge, CutRefused}
 use Rattle.pj_run.specs.declared.stops.FilesStop.{FilesStop}
 use Rattle.pj_run.specs.declared.stops.FilesStop.TheVariants.{Opening, Run}
 use Rattle.pj_report.specs.Written.{Cut as HowCut, anywhere, between}
@@ -17,9 +17,13 @@ abbrev pub run_cut : RunStop → HowCut
 run_cut (ReadFault stream) = between
 run_cut (TooLarge stream) = between
 run_cut (Limit node) = between
+run_cut (Refused line) = between
 run_cut WriteFailed = anywhere
 run_cut NoMemory = between
 run_cut (Cut stop) = anywhere
+run_cut (CutRead stream) = anywhere
+run_cut (CutLarge stream) = anywhere
+run_cut (CutRefused line) = anywhere
 
 abbrev pub files_cut : FilesStop → HowCut
 files_cut (Opening stop) = between

@@ -37,6 +37,24 @@ pub record EndsCut (job : Job) (files : List (List ℕ)) (node : ℕ) (before li
   pub reaches : ReachesLimit job.limit (run_nodes job) (history_of job files) node
   pub written : FrontOf (lines_until job reaches.front) before lines
 
+-- a step of the script is not enabled, and the lines are those of all that the history hands out, which ends before it
+abbrev pub EndsRefused : Job → List (List ℕ) → List ℕ → List ℕ → Type 0
+EndsRefused job files before lines = lines ≡ before ++ lines_until job (history_of job files)
+
+-- such a front's lines were to be written, up to a turn of this stream, and a front of their bytes was
+pub record EndsCutBefore (job : Job) (files : List (List ℕ)) (stream : ℕ) (before lines : List ℕ) : Type 0 where
+  pub front : List Entry
+  pub next : Entry
+  pub back : List Entry
+  pub run : front ++ next ∷ back ≡ history_of job files
+  pub element : Element
+  pub turn : next.event ≡ Arrive stream element
+  pub written : FrontOf (lines_until job front) before lines
+
+-- a step of the script is not enabled, the lines of all that the history hands out were to be written, and a front of their bytes was
+abbrev pub EndsCutRefused : Job → List (List ℕ) → List ℕ → List ℕ → Type 0
+EndsCutRefused job files before lines = FrontOf (lines_until job (history_of job files)) before lines
+
 -- in this history exactly the elements arrived at the stream that are accepted of the lines that end with a line feed in so many
 -- bytes of its file
 abbrev pub ArrivedOf : Job → List (List ℕ) → ℕ → ℕ → List Entry → Type 0

@@ -1,6 +1,7 @@
 pub mod Checking
 pub mod Ends
 pub mod Feeding
+pub mod Goes
 pub mod Jobs
 pub mod Outcome
 pub mod PlanNames

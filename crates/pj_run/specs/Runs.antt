@@ -1,5 +1,5 @@
 -- What a plan's run over files hands out, and the lines that it writes. There is one file for each stream.
-use Rattle.std.specs.Prelude.{◌≡◌, ◌<◌, true, false, Bool, ℕ, ℤ, List, [], ◌∷◌, ◌++◌, map, length}
+use Rattle.std.specs.Prelude.{◌≡◌, ◌<◌, true, false, Bool, ℕ, ℤ, List, [], ◌∷◌, ◌++◌, map, length, ⊤, Option, Some, None}
 use Rattle.pj_run.specs.Jobs.{Job}
 use Rattle.pj_plan.specs.declared.node.PlanNode.{PlanNode}
 use Rattle.pj_plan.specs.Nodes.{joins_of, streams_in}
@@ -18,6 +18,9 @@ use Rattle.pj_events.specs.declared.events.Out.{Out}
 use Rattle.pj_events.specs.Limits.{ReachesLimit}
 use Rattle.pj_events.specs.Outcomes.{elements_out, peak_of, outputs_of as handed_out}
 use Rattle.pj_events.specs.OneThread.{one_thread_of}
+use Rattle.pj_script.specs.declared.step.ScriptStep.{ScriptStep}
+use Rattle.pj_script.specs.Playing.{played_of, scripted_of}
+use Rattle.pj_script.specs.Reading.{AreStepsOf}
 use Rattle.pj_core.specs.Cores.{CoreState}
 use Rattle.pj_core.specs.Calls.{IsFresh}
 use Rattle.pj_plan.specs.Sound.{IsSoundPlan}
@@ -27,7 +30,7 @@ use Rattle.pj_run.specs.declared.run.Writing.{Writing}
 use Rattle.pj_value.specs.declared.values.Value.{Value}
 use Rattle.pj_report.specs.declared.writer.Form.{Form}
 use Rattle.pj_report.specs.declared.writer.Form.TheVariants.{AsTheyCome, Sorted, Summed}
-use Rattle.pj_report.specs.Forms.{form_lines, total_in}
+use Rattle.pj_report.specs.Forms.{form_lines, shown, total_in}
 use Rattle.pj_report.specs.Report.{check_line, stream_lines, results_line, peak_line, total_line}
 use Rattle.pj_feed.specs.Feeds.{accepted_of}
 
@@ -53,11 +56,33 @@ with_closings (stream ∷ streams) (es ∷ lists) = (es ++ Punct (closing stream
 abbrev pub elements_of : Job → List (List ℕ) → List (List Element)
 elements_of job files = with_closings (streams_in job.nodes) (accepted_of (streams_in job.nodes) files)
 
--- the history of the run on one thread, with sweeps
-abbrev pub history_of : Job → List (List ℕ) → List Entry
-history_of job files = one_thread_of true (run_nodes job) (accepted_of (streams_in job.nodes) files)
+-- the steps of the script, if there is one, are steps over these nodes
+abbrev pub IsScriptOf : List PlanNode → Option (List (ℕ × ScriptStep)) → Type 0
+IsScriptOf nodes None = ⊤
+IsScriptOf nodes (Some steps) = AreStepsOf nodes steps
 
--- what the run on one thread hands out
+-- the history over these elements of each stream: that of the run on one thread, with sweeps; or that of a script
+abbrev pub history_by : Option (List (ℕ × ScriptStep)) → List Node → List (List Element) → List Entry
+history_by None nodes lists = one_thread_of true nodes lists
+history_by (Some steps) nodes lists = scripted_of nodes lists steps
+
+-- the line of the first step of the script that is not enabled as the run comes to it, if there is one
+abbrev pub refused_by : Option (List (ℕ × ScriptStep)) → List Node → List (List Element) → Option ℕ
+refused_by None nodes lists = None
+refused_by (Some steps) nodes lists = (played_of nodes lists steps).refused
+
+-- the history of the run. Where a step of its script is not enabled, it ends before that step
+abbrev pub history_of : Job → List (List ℕ) → List Entry
+history_of job files = history_by job.script (run_nodes job) (accepted_of (streams_in job.nodes) files)
+
+abbrev pub refused_line : Job → List (List ℕ) → Option ℕ
+refused_line job files = refused_by job.script (run_nodes job) (accepted_of (streams_in job.nodes) files)
+
+-- every step of its script is enabled, if there is a script
+abbrev pub IsEnabled : Job → List (List ℕ) → Type 0
+IsEnabled job files = refused_line job files ≡ None
+
+-- what the run hands out
 abbrev pub outs_of : Job → List (List ℕ) → List Out
 outs_of job files = handed_out job.trace (run_nodes job) (history_of job files)
 
@@ -107,6 +132,14 @@ report_of job files outputs =
 abbrev pub run_lines : Job → List (List ℕ) → List (List ℕ)
 run_lines job files = form_lines job.form job.nodes (outs_of job files) ++ report_of job files (outputs_of job files)
 
+-- the lines that are due: all lines of the run; where a step of its script is not enabled, those alone that are written as outputs come
+abbrev pub due_where : Option ℕ → Job → List (List ℕ) → List (List ℕ)
+due_where None job files = run_lines job files
+due_where (Some line) job files = shown job.form job.nodes (outs_of job files)
+
+abbrev pub due_lines : Job → List (List ℕ) → List (List ℕ)
+due_lines job files = due_where (refused_line job files) job files
+
 -- ---- what holds of the outputs of a run that is done
 
 -- the rows are the plan's answer over exactly the accepted rows, as a bag
@@ -127,15 +160,20 @@ AreTallies job files outputs report = report ≡ report_of job files outputs
 
 -- ---- limits
 
--- what a core runs, where this is to be written
-abbrev pub job_in : Writing → CoreState → Job
-job_in writing core = record {
+-- what a core runs, where this script is played first, if there is one, and this is to be written
+abbrev pub job_by : Option (List (ℕ × ScriptStep)) → Writing → CoreState → Job
+job_by script writing core = record {
   nodes = core.plan.nodes;
   trace = core.plan.trace;
   limit = core.limit;
+  script = script;
   form = writing.form;
   check = writing.check;
 }
+
+-- the same without a script
+abbrev pub job_in : Writing → CoreState → Job
+job_in writing core = job_by None writing core
 
 -- the plan of a core, with the certificates that the checker finds
 abbrev pub plan_in : CoreState → RunPlan
@@ -153,7 +191,7 @@ abbrev pub elements_to : Job → List (List ℕ) → ℕ → ℕ
 elements_to job files node =
     coming_to job.nodes (accepted_rows job files) (map puncts_of (elements_of job files)) node
 
--- a step of the run on one thread is the first that brings an element beyond the limit, and this is its node: a join or a group,
+-- a step of the run is the first that brings an element beyond the limit, and this is its node: a join or a group,
 -- to which more elements come in all than may
 pub record GoesBeyond (job : Job) (files : List (List ℕ)) (node : ℕ) : Type 0 where
   pub reaches : ReachesLimit job.limit (run_nodes job) (history_of job files) node

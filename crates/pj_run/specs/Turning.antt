@@ -19,13 +19,13 @@ use Rattle.pj_report.specs.declared.writer.ResultWriter.{ResultWriter}
 use Rattle.pj_run.specs.declared.stops.TurnStop.{TurnStop}
 use Rattle.pj_run.specs.declared.stops.TurnStop.TheVariants.{Limit as TurnLimit, WriteFailed as TurnFailed, NoMemory as TurnMemory, Cut as TurnCut}
 use Rattle.pj_run.specs.declared.stops.RunStop.{RunStop}
-use Rattle.pj_run.specs.declared.stops.RunStop.TheVariants.{ReadFault, TooLarge, Limit, WriteFailed, NoMemory, Cut}
+use Rattle.pj_run.specs.declared.stops.RunStop.TheVariants.{ReadFault, TooLarge, Limit, Refused, WriteFailed, NoMemory, Cut, CutRead, CutLarge, CutRefused}
 use Rattle.pj_feed.specs.Feeds.{FeedState, fed_elements}
 use Rattle.pj_io.specs.States.{SinkState}
 use Rattle.pj_report.specs.Forms.{shown, taken_so_far}
 use Rattle.pj_run.specs.Cuts.{turn_cut}
 use Rattle.pj_report.specs.Written.{flat, FrontOf, WritesBy}
-use Rattle.pj_run.specs.Ends.{EndsBefore, EndsAtBytes, EndsAtLimit, EndsCut}
+use Rattle.pj_run.specs.Ends.{EndsBefore, EndsAtBytes, EndsAtLimit, EndsCut, EndsCutBefore, EndsCutRefused, EndsRefused}
 use Rattle.pj_events.specs.declared.events.Stop.TheVariants.{Limit as CoreLimit, NoMemory as CoreMemory}
 
 -- the turn is of one of these streams, and what it brings fits the columns, where it is no closing
@@ -112,13 +112,19 @@ CutEnd CoreMemory job files before lines = ⊤
 
 -- What the stop of a run's turns leaves: where a stream's turn could not be made, the lines of the outputs up to it, and where a
 -- read of its file failed, exactly the elements arrived that are accepted of the lines which end with a line feed in the bytes
--- taken; at a limit of bytes the same of those; at one of elements, the lines of the outputs up to the entry that brought one beyond it
+-- taken; at a limit of bytes the same of those; at one of elements, the lines of the outputs up to the entry that brought one beyond
+-- it; where a step of a script is not enabled, those of all outputs until then, which the history ends with; and where the output
+-- failed behind such a stop, a front of the bytes of these lines
 abbrev pub TurnsEnd : RunStop → Job → List (List ℕ) → List FeedState → List ℕ → List ℕ → Type 0
 TurnsEnd (ReadFault stream) job files feeds before lines =
     (feed : FeedState) × (slice_get feeds stream ≡ Some feed) × (ends : EndsBefore job files stream before lines)
     × (arrived_at stream ends.front ≡ fed_elements feed.intake.columns feed.source.taken)
 TurnsEnd (TooLarge stream) job files feeds before lines = EndsAtBytes job files stream before lines
 TurnsEnd (Limit node) job files feeds before lines = EndsAtLimit job files node before lines
+TurnsEnd (Refused line) job files feeds before lines = EndsRefused job files before lines
 TurnsEnd WriteFailed job files feeds before lines = ⊤
 TurnsEnd NoMemory job files feeds before lines = ⊤
 TurnsEnd (Cut stop) job files feeds before lines = CutEnd stop job files before lines
+TurnsEnd (CutRead stream) job files feeds before lines = EndsCutBefore job files stream before lines
+TurnsEnd (CutLarge stream) job files feeds before lines = EndsCutBefore job files stream before lines
+TurnsEnd (CutRefused line) job files feeds before lines = EndsCutRefused job files before lines

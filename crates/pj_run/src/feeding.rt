@@ -3,7 +3,7 @@ ghost use Rattle.std.specs.Prelude.{◌≡◌, ◌<◌, ◌≤◌, [], List, len
 ghost use Rattle.pj_io.specs.Causes.{Rose};
 ghost use Rattle.pj_plan.specs.declared.node.PlanNode.{PlanNode};
 ghost use Rattle.pj_intake.specs.Taking.{waits_for_read};
-ghost use Rattle.pj_feed.specs.Feeds.{work_of, AllTold, AreFeeds, AreSameFeeds, BringsIn, BringsOf, GivesInRounds, GivesTurn, IsFed, IsSameFeed, WorksOn};
+ghost use Rattle.pj_feed.specs.Feeds.{work_of, AllTold, AreFeeds, AreSameFeeds, BringsIn, BringsOf, ComesBehind, GivesInRounds, GivesTurn, IsFed, IsSameFeed, WorksOn};
 ghost use Rattle.pj_report.specs.Written.{WritesNothing};
 ghost use Rattle.pj_run.specs.Feeding.{FeedEnds, StopsIn};
 
@@ -44,20 +44,23 @@ pub fn next_turn<S: Source, K: Sink>(
     }
 }
 
-/// The next turn of a stream whose closing is still to come: its next accepted element, or its closing. What the output holds back
-/// is handed on before a read. After an `Err` no further turn can be made.
+/// The next turn of a stream whose closing is still to come: its next accepted element, or its closing, which follows what was
+/// accepted before, whatever its source tells. What the output holds back is handed on before a read. After an `Err` no further turn
+/// can be made.
 pub fn next_of<S: Source, K: Sink>(feed: &mut Feed<S>, out: &mut K) -> Result<Arrival, FeedWhy>
     requires fed { IsFed feed.old }
     requires open { feed.old.is_open ≡ true }
     ensures fed { OnOk result (IsFed feed.new) }
     ensures same { IsSameFeed feed.old feed.new }
     ensures gives { IfOk result (GivesTurn feed.old feed.new) }
+    ensures comes { IfOk result (ComesBehind feed.old feed.new) }
     ensures works { OnOk result (work_of feed.new < work_of feed.old) }
     ensures brings { IfOk result (BringsOf feed.old) }
     ensures written { WritesNothing (K.state out.old) (K.state out.new) }
+    ensures handed_on { OnOk result (waits_for_read feed.old.intake ≡ true → (K.state out.new).held ≡ []) }
     ensures stops { IfErr result (λ why. FeedEnds feed.old feed.new (K.state out.old) (K.state out.new) why) }
 {
-    loop {
+    'lines: loop {
         hand_on(feed, out)?;
         match feed.step() {
             Ok(Some(next)) => return Ok(next),
@@ -71,6 +74,7 @@ pub fn next_of<S: Source, K: Sink>(feed: &mut Feed<S>, out: &mut K) -> Result<Ar
 fn hand_on<S: Source, K: Sink>(feed: &Feed<S>, out: &mut K) -> Result<(), Failed>
     ensures written { WritesNothing (K.state out.old) (K.state out.new) }
     ensures handed_on { OnOk result (waits_for_read feed.now.intake ≡ true → (K.state out.new).held ≡ []) }
+    ensures none { OnOk result ((K.state out.old).held ≡ [] → (K.state out.new).held ≡ []) }
     ensures fault { OnErr result (Rose (K.state out.old).faults (K.state out.new).faults) }
 {
     if feed.waits() {

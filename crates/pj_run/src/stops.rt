@@ -46,12 +46,22 @@ pub enum RunStop {
     TooLarge { stream: u32 },
     /// More elements came to this node than may.
     Limit { node: u32 },
+    /// The step on this line of the script is not enabled.
+    Refused { line: u64 },
     /// The output failed.
     WriteFailed,
     /// Memory could not be had.
     NoMemory,
-    /// The core stopped so, and then the output failed, before all was written that was handed out until then.
+    /// The core stopped so, or memory was wanting so in a step of a script, and then the output failed, before all was written that was
+    /// handed out until then.
     Cut { stop: Stop },
+    /// A read of this stream's file failed, and then the output failed, before all was written that was handed out until then.
+    CutRead { stream: u32 },
+    /// The file of this stream is too large, and then the output failed, before all was written that was handed out until then.
+    CutLarge { stream: u32 },
+    /// The step on this line of the script is not enabled, and then the output failed, before all was written that was handed out
+    /// until then.
+    CutRefused { line: u64 },
 }
 
 /// Why a run over the files of its operands ended before its end.

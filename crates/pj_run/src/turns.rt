@@ -25,7 +25,6 @@ use std::alloc::Global;
 ///
 /// `Limit` comes where the turn brings one element beyond the limit of a node; exactly what was handed out before that is
 /// written first. Where that fails, `Cut` tells the stop that came before.
-#[inline(always)]
 pub fn take_turn<K: Sink>(
     alloc: Global,
     core: &mut Core,

@@ -11,10 +11,10 @@ returns-in-Err-clause-err g c =
     let is = subst (λ (f : FeedState). slice_get c.args.feeds.now.feeds.items c.args.stream ≡ Some f) here.1 here.0.is in record {
       of = refl;
       before = c.index_mut.result.now;
-      now = c.next_arrival.new.feed;
+      now = c.next_of.new.feed;
       was = is;
-      is_now = get_set c.args.feeds.now.feeds.items c.args.stream c.index_mut.result.now c.next_arrival.new.feed is;
+      is_now = get_set c.args.feeds.now.feeds.items c.args.stream c.index_mut.result.now c.next_of.new.feed is;
       still = ap (λ (f : FeedState). f.is_open) (sym here.1) ∙ here.0.still;
-      same = same_set c.args.feeds.now.feeds.items c.args.stream c.index_mut.result.now c.next_arrival.new.feed is c.in-Err.ensures.same;
+      same = same_set c.args.feeds.now.feeds.items c.args.stream c.index_mut.result.now c.next_of.new.feed is c.in-Err.ensures.same;
       ends = c.in-Err.ensures.stops;
     }

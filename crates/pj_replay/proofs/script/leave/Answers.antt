@@ -13,3 +13,6 @@ returns-clause-stops g c = λ run feeds k.
     subst (λ stop. StopsReplay stop run feeds (g.K.Sink.state c.drain-written.new.out)) (sym c.left_by.ensures)
     (drained-stops run (stage c.args.hand.now feeds c.args.gathered.now (g.K.Sink.state c.args.out.now)) (g.K.Sink.state c.drain-written.new.out) c.drain-written.result d.told d.later d.fault d.lines
     c.args.stop (sym c.is_over.ensures ∙ c.if-is_over.false) k c.drain-written.result refl)
+
+pub returns-clause-plan : goal.returns-clause-plan
+returns-clause-plan g c = c.drain-written.ensures.notes.plan

@@ -5,6 +5,7 @@ use Rattle.pj_script.specs.declared.step.ScriptStep.{ScriptStep}
 use Rattle.pj_script.specs.declared.step.ScriptStep.TheVariants.{Arrive}
 use Rattle.pj_script.specs.Reading.{IsStepOf}
 use Rattle.pj_replay.specs.Playing.{AnswersPlay, Stage, stage}
+use Rattle.pj_replay.proofs.Ended.{ends_plan, skips_plan}
 use Rattle.pj_replay.proofs.Plays.{any-stops, playing-at, playing-done, playing-more, step-fits, step-refused}
 use Rattle.pj_replay.proofs.script.play_steps.Given.{Over}
 use Rattle.pj_replay.proofs.script.play_steps.Goals.{After-make_step, After-steps}
@@ -49,7 +50,6 @@ steps-preserved g c =
     record {
       ready = made.ready;
       plan = made.plan ∙ c.steps.invariant.plan;
-      asked = made.asked ∙ c.steps.invariant.asked;
       at = c.in-Ok-true.ensures.at ∙ c.steps.invariant.at;
       same = all_same_then c.args.feeds.now.feeds.items c.steps.feeds.feeds.items c.make_step.new.feeds.feeds.items c.steps.invariant.same c.in-Ok-true.ensures.same;
       told = λ t. c.steps.invariant.told (c.in-Ok-true.ensures.told t);
@@ -64,7 +64,6 @@ pub returns-clause-ok : goal.returns-clause-ok
 returns-clause-ok g c = record {
   ready = c.steps.invariant.ready;
   plan = c.steps.invariant.plan;
-  asked = c.steps.invariant.asked;
   goes = λ run history p.
       let now = c.steps.invariant.goes run history p in
       (now.0, playing-done run now.0 (stage c.steps.hand c.steps.feeds.feeds.items c.steps.gathered (g.K.Sink.state c.steps.out)) c.args.steps.now c.steps.item-index c.steps-test.false now.1);
@@ -77,4 +76,19 @@ pub returns-in-Err-clause-same : goal.returns-in-Err-clause-same
 returns-in-Err-clause-same g c = all_same_then c.args.feeds.now.feeds.items c.steps.feeds.feeds.items c.make_step.new.feeds.feeds.items c.steps.invariant.same c.in-Err.ensures.same
 
 pub steps-init : goal.steps-init
-steps-init g c = record { ready = c.requires.ready; plan = refl; asked = refl; at = refl; same = all_same c.args.feeds.now.feeds.items; told = λ t. t; later = omega arith; goes = λ run history p. (history, p) }
+steps-init g c = record { ready = c.requires.ready; plan = refl; at = refl; same = all_same c.args.feeds.now.feeds.items; told = λ t. t; later = omega arith; goes = λ run history p. (history, p) }
+
+pub returns-in-Ok-false-clause-plan : goal.returns-in-Ok-false-clause-plan
+returns-in-Ok-false-clause-plan g c =
+    let a = (goal.at.returns-in-Ok-false-clause-plan g c).After-make_step in
+    let item = get_or c.args.steps.now c.steps.item-index none in
+    skips_plan (stage c.steps.hand c.steps.feeds.feeds.items c.steps.gathered (g.K.Sink.state c.steps.out)) (then g a) item.1
+    (subst (λ (b : Bool). AnswersPlay b (stage c.steps.hand c.steps.feeds.feeds.items c.steps.gathered (g.K.Sink.state c.steps.out)) (then g a) item.1) c.in-Ok-false.field-0-test c.in-Ok-false.ensures.ok)
+    ∙ c.steps.invariant.plan
+
+pub returns-in-Err-clause-plan : goal.returns-in-Err-clause-plan
+returns-in-Err-clause-plan g c =
+    let a = (goal.at.returns-in-Err-clause-plan g c).After-make_step in
+    let item = get_or c.args.steps.now c.steps.item-index none in
+    ends_plan c.in-Err.stop (stage c.steps.hand c.steps.feeds.feeds.items c.steps.gathered (g.K.Sink.state c.steps.out)) (then g a) item.1 c.in-Err.ensures.err
+    ∙ c.steps.invariant.plan

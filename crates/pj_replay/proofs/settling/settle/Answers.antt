@@ -4,6 +4,7 @@ use Rattle.pj_core.specs.Cores.{CoreState}
 use Rattle.pj_report.specs.Forms.{shown}
 use Rattle.pj_report.specs.Written.{WritesBy, write_cut}
 use Rattle.pj_run.proofs.TurnLaws.{same_nodes}
+use Rattle.pj_run.proofs.WholeLaws.{end_wrote, shown_are_lines, wrote_lines}
 use Rattle.pj_replay.proofs.Settled.{settle_leaves, settle_stops}
 use Rattle.pj_replay.proofs.settling.settle.Given.{Over}
 use Rattle.pj_replay.proofs.settling.settle.Goals.{After-take-written}
@@ -25,3 +26,12 @@ pub returns-clause-stops : goal.returns-clause-stops
 returns-clause-stops g c =
     settle_stops c.args.results.now.form c.args.hand.now c.settle_hand-handed.new.hand c.settle_hand-handed.result.outs c.as_slice.result.now c.as_slice.ensures (g.K.Sink.state c.args.out.now) (g.K.Sink.state c.take-written.new.out)
     c.settle_hand-handed.result.stop c.take-written.result c.turn_end.result c.settle_hand-handed.ensures.settled c.turn_end.ensures (wrote g (goal.at.returns-clause-stops g c).After-take-written)
+
+pub returns-clause-whole : goal.returns-clause-whole
+returns-clause-whole g c = λ names t.
+    let form = c.args.results.now.form in
+    let nodes = c.args.hand.now.core.plan.nodes in
+    let old = g.K.Sink.state c.args.out.now in
+    let new = g.K.Sink.state c.take-written.new.out in
+    end_wrote c.take-written.result c.settle_hand-handed.result.stop c.turn_end.result old new c.turn_end.ensures
+    (wrote_lines write_cut (shown form nodes c.as_slice.result.now) old new c.take-written.result (shown_are_lines form nodes c.as_slice.result.now names) (wrote g (goal.at.returns-clause-whole g c).After-take-written t))

@@ -1,4 +1,4 @@
--- A run that makes a given history, turn by turn.
+-- A run that has begun, turn by turn.
 use Rattle.std.proofs.Common.{◌≡◌, ◌≤◌, ℕ, ◌+◌, ◌<◌, ◌^◌, Bool, true, false, List, [], ◌∷◌, ◌++◌, length, map, get_or, take, drop, Some, IsTrue, refl, ap, ap₂, sym, ◌∙◌, append_assoc, subst, arith, zero-add}
 use Rattle.std.specs.List.{slice_get}
 use Rattle.std.specs.Option.{option_map}
@@ -44,28 +44,28 @@ use Rattle.pj_run.specs.declared.stops.FeedWhy.{FeedWhy}
 use Rattle.pj_run.specs.declared.stops.FeedWhy.TheVariants.{Intake, WriteFailed as FlushFailed}
 use Rattle.pj_run.specs.declared.stops.TurnStop.{TurnStop}
 use Rattle.pj_run.specs.declared.stops.TurnStop.TheVariants.{Limit as TurnLimit, WriteFailed as TurnFailed, NoMemory as TurnMemory, Cut as TurnCut}
-use Rattle.pj_run.specs.Ends.{lines_until}
+use Rattle.pj_run.specs.Ends.{EndsAtLimit, EndsBefore, lines_until}
 use Rattle.pj_run.specs.Feeding.{FeedEnds, StopsIn}
 use Rattle.pj_run.specs.Jobs.{Job}
 use Rattle.pj_run.specs.Runs.{plan_run, run_nodes}
 use Rattle.pj_run.specs.Stops.{of_turn, stop_at}
-use Rattle.pj_run.specs.Turning.{BreaksOff, CutsTurn, EndsTurn, TurnDone, TurnStops, lines_of, turn_outs}
+use Rattle.pj_run.specs.Turning.{BreaksOff, CutEnd, CutsTurn, EndsTurn, TurnDone, TurnStops, lines_of, turn_outs}
 use Rattle.pj_run.proofs.Accepting.{count-streams, schema-is}
 use Rattle.pj_run.proofs.Arrivals.{arrived-is, brought-left, elements-turns}
 use Rattle.pj_run.proofs.Running.{reached}
-use Rattle.pj_replay.specs.Goes.{CoreCause, CoreCut, HasMade, Replay, StopCause, StopLeaves, StopsAtLimit, StopsBefore}
+use Rattle.pj_run.specs.Goes.{CoreCause, HasMade, RunStart, StopCause, StopLeaves, whole_of}
 
 -- the lines that are written of what a history hands out
 abbrev pub shown_until : Job → List Entry → List (List ℕ)
 shown_until job history = shown job.form job.nodes (handed_out job.trace (run_nodes job) history)
 
 -- the next turn is the first of those that are left
-pub made_next : (run : Replay) (history : List Entry) (core : CoreState) (results : ResultWriter) (next : Arrival) (old new : List Turn) → core.plan ≡ plan_run run.job → HasMade run history core old results
+pub made_next : (run : RunStart) (history : List Entry) (core : CoreState) (results : ResultWriter) (next : Arrival) (old new : List Turn) → core.plan ≡ plan_run run.job → HasMade run history core old results
     → old ≡ turn_in (streams_in run.job.nodes) next ∷ new → HasMade run history core (turn_in (streams_in core.plan.nodes) next ∷ new) results
 made_next run history core results next old new plan made gives =
     subst (λ (ts : List Turn). HasMade run history core ts results) (gives ∙ ap (λ (p : RunPlan). turn_in (streams_in p.nodes) next ∷ new) (sym plan)) made
 
-module _ (run : Replay) (history : List Entry) (core : CoreState) (t : Turn) (left : List Turn) (results : ResultWriter) (plan : core.plan ≡ plan_run run.job) (limit : core.limit ≡ run.job.limit) (made : HasMade run history core (t ∷ left) results) where
+module _ (run : RunStart) (history : List Entry) (core : CoreState) (t : Turn) (left : List Turn) (results : ResultWriter) (plan : core.plan ≡ plan_run run.job) (limit : core.limit ≡ run.job.limit) (made : HasMade run history core (t ∷ left) results) where
   abbrev job : Job
   job = run.job
 
@@ -93,7 +93,7 @@ module _ (run : Replay) (history : List Entry) (core : CoreState) (t : Turn) (le
       subst (λ (p : RunPlan). IsEntryAllowed (reached_of false (nodes_of p) history) (arrival_of t)) (sym plan)
       ((grows-legally (run_nodes job) history (arrival_of t)).0 (fronts-are-legal (run_nodes job) (history ++ arrival_of t ∷ []) rest (subst (IsLegal (run_nodes job)) (sym (append_assoc history (arrival_of t ∷ []) rest)) all-legal))).1
 
-  parts : (history ++ behind) ++ turns_entries true (nodes_from nodes here) left ≡ run.whole
+  parts : (history ++ behind) ++ turns_entries true (nodes_from nodes here) left ≡ whole_of run
   parts =
       ap (λ (xs : List Entry). (history ++ xs) ++ turns_entries true (nodes_from nodes here) left) here-is
       ∙ (append_assoc history here (turns_entries true (nodes_from nodes here) left) ∙ made.rest)
@@ -118,7 +118,7 @@ module _ (run : Replay) (history : List Entry) (core : CoreState) (t : Turn) (le
   abbrev later : List (List ℕ)
   later = shown job.form job.nodes (handed_out job.trace (nodes_from nodes here) (turns_entries true (nodes_from nodes here) left))
 
-  rest_lines : (shown_until job history ++ shown job.form core.plan.nodes (turn_outs core history t)) ++ later ≡ shown_until job run.whole
+  rest_lines : (shown_until job history ++ shown job.form core.plan.nodes (turn_outs core history t)) ++ later ≡ shown_until job (whole_of run)
   rest_lines =
       ap (λ (ls : List (List ℕ)). ls ++ later) turn_lines
       ∙ (ap (λ (ns : List Node). shown_until job (history ++ behind) ++ shown job.form job.nodes (handed_out job.trace ns (turns_entries true (nodes_from nodes here) left))) (sym nodes-are)
@@ -126,9 +126,9 @@ module _ (run : Replay) (history : List Entry) (core : CoreState) (t : Turn) (le
       ∙ ap (shown job.form job.nodes) (sym (outputs-append job.trace (run_nodes job) (history ++ behind) (turns_entries true (nodes_from nodes here) left)) ∙ ap (handed_out job.trace (run_nodes job)) parts)))
 
   -- a turn that stopped
-  pub turn_stopped : (cut : Cut) (before mid after : List ℕ) → mid ≡ before ++ lines_until job history → Leaves cut (shown job.form core.plan.nodes (turn_outs core history t)) mid after → Leaves cut (shown_until job run.whole) before after
+  pub turn_stopped : (cut : Cut) (before mid after : List ℕ) → mid ≡ before ++ lines_until job history → Leaves cut (shown job.form core.plan.nodes (turn_outs core history t)) mid after → Leaves cut (shown_until job (whole_of run)) before after
   turn_stopped cut before mid after first stop =
-      stop_among cut (shown_until job history) (shown job.form core.plan.nodes (turn_outs core history t)) later (shown_until job run.whole) before mid after first stop rest_lines
+      stop_among cut (shown_until job history) (shown job.form core.plan.nodes (turn_outs core history t)) later (shown_until job (whole_of run)) before mid after first stop rest_lines
 
   -- a turn that was made
   pub turn_made : (core' : CoreState) (results' : ResultWriter) → core.kept.undrained ≡ [] → TurnDone core core' t results results' → HasMade run (history ++ behind) core' left results'
@@ -145,15 +145,15 @@ module _ (run : Replay) (history : List Entry) (core : CoreState) (t : Turn) (le
   }
 
   -- a turn that brought one element beyond the limit
-  reached_at : (node : ℕ) (off : BreaksOff core history t node) → (r : ReachesLimit job.limit (run_nodes job) run.whole node) × (r.front ≡ history ++ off.front)
+  reached_at : (node : ℕ) (off : BreaksOff core history t node) → (r : ReachesLimit job.limit (run_nodes job) (whole_of run) node) × (r.front ≡ history ++ off.front)
   reached_at node off =
-      reached job.limit (run_nodes job) run.whole history off.front off.back (turns_entries true (nodes_from nodes here) left) node
+      reached job.limit (run_nodes job) (whole_of run) history off.front off.back (turns_entries true (nodes_from nodes here) left) node
       (sym (ap (λ (es : List Entry). history ++ (es ++ turns_entries true (nodes_from nodes here) left)) (sym off.parts ∙ here-is) ∙ made.rest))
       made.within
       (subst (λ (n : ℕ). StaysWithin n (run_nodes job) history off.front) limit (subst (λ (p : RunPlan). StaysWithin core.limit (nodes_of p) history off.front) plan off.within))
       (subst (λ (n : ℕ). BeginsBeyond n (run_nodes job) (history ++ off.front) off.back node) limit (subst (λ (p : RunPlan). BeginsBeyond core.limit (nodes_of p) (history ++ off.front) off.back node) plan off.beyond))
 
-  pub limit_reached : (node : ℕ) (off : BreaksOff core history t node) → ReachesLimit job.limit (run_nodes job) run.whole node
+  pub limit_reached : (node : ℕ) (off : BreaksOff core history t node) → ReachesLimit job.limit (run_nodes job) (whole_of run) node
   limit_reached node off = (reached_at node off).0
 
   -- the lines of what came before it
@@ -168,14 +168,14 @@ module _ (run : Replay) (history : List Entry) (core : CoreState) (t : Turn) (le
       ∙ ap (λ (h : List Entry). shown_until job h) (sym r.1)))
 
   -- exactly the lines of what came before it were written
-  stops_at_limit : (node : ℕ) (before : List ℕ) (old new : SinkState) → old.written ≡ before ++ lines_until job history → IsTrue new.told → EndsTurn job.form core history t node old new → StopsAtLimit job run.whole node before new.written
+  stops_at_limit : (node : ℕ) (before : List ℕ) (old new : SinkState) → old.written ≡ before ++ lines_until job history → IsTrue new.told → EndsTurn job.form core history t node old new → EndsAtLimit job (files_of run.feeds) node before new.written
   stops_at_limit node before old new first told ends = record {
     reaches = (reached_at node ends.breaks).0;
     written = written_then (shown_until job history) (lines_of job.form core history ends.breaks.front) before old.written new.written first (ends.written told) ∙ ap (λ (ls : List (List ℕ)). before ++ flat ls) (lines_before node ends.breaks);
   }
 
   -- or a front of their bytes was
-  stops_cut : (stop : Stop) (before : List ℕ) (old new : SinkState) → old.written ≡ before ++ lines_until job history → IsTrue new.told → CutsTurn stop job.form core history t old new → CoreCut stop job run.whole before new.written
+  stops_cut : (stop : Stop) (before : List ℕ) (old new : SinkState) → old.written ≡ before ++ lines_until job history → IsTrue new.told → CutsTurn stop job.form core history t old new → CutEnd stop job (files_of run.feeds) before new.written
   stops_cut (CoreLimit node) before old new first told ends = record {
     reaches = (reached_at node ends.breaks).0;
     written = subst (λ (ls : List (List ℕ)). FrontOf (flat ls) before new.written) (lines_before node ends.breaks) (stop_then anywhere (shown_until job history) (lines_of job.form core history ends.breaks.front) before old.written new.written first (ends.written told));
@@ -194,7 +194,7 @@ module _ (run : Replay) (history : List Entry) (core : CoreState) (t : Turn) (le
   cut_cause CoreMemory old new ends = tt
 
 -- why a turn stopped, where the sink's faults rose with a failed write
-pub turn_why : (stop : TurnStop) (run : Replay) (news : List FeedState) (core : CoreState) (history : List Entry) (t : Turn) (old new : SinkState) → core.plan ≡ plan_run run.job → core.limit ≡ run.job.limit → run.sink.faults ≤ old.faults
+pub turn_why : (stop : TurnStop) (run : RunStart) (news : List FeedState) (core : CoreState) (history : List Entry) (t : Turn) (old new : SinkState) → core.plan ≡ plan_run run.job → core.limit ≡ run.job.limit → run.sink.faults ≤ old.faults
     → (stop ≡ TurnFailed → Rose old.faults new.faults) → ((why : Stop) → stop ≡ TurnCut why → Rose old.faults new.faults)
     → (AllTold run.feeds → (left : List Turn) × (results : ResultWriter) × HasMade run history core (t ∷ left) results × TurnStops stop run.job.form core history t old new) → StopCause (of_turn stop) run news new
 turn_why (TurnLimit node) run news core history t old new plan limit later rose cut stops = λ told. let s = stops told in limit_reached run history core t s.0 s.1 plan limit s.2 node s.3.breaks
@@ -206,8 +206,8 @@ turn_why (TurnCut why) run news core history t old new plan limit later rose cut
 -- ---- a stream's turn that could not be made
 
 -- the lines of the outputs are written up to a turn of this stream
-pub stops_before : (run : Replay) (history : List Entry) (core : CoreState) (left : List Turn) (results : ResultWriter) (t : Turn) (rest : List Turn) (stream : ℕ) (lines : List ℕ) → HasMade run history core left results → left ≡ t ∷ rest → t.stream ≡ stream
-    → lines ≡ run.sink.written ++ lines_until run.job history → StopsBefore run.job run.whole stream run.sink.written lines
+pub stops_before : (run : RunStart) (history : List Entry) (core : CoreState) (left : List Turn) (results : ResultWriter) (t : Turn) (rest : List Turn) (stream : ℕ) (lines : List ℕ) → HasMade run history core left results → left ≡ t ∷ rest → t.stream ≡ stream
+    → lines ≡ run.sink.written ++ lines_until run.job history → EndsBefore run.job (files_of run.feeds) stream run.sink.written lines
 stops_before run history core left results t rest stream lines made is mine written =
     let nodes : List Node = nodes_from (run_nodes run.job) history in
     record {
@@ -221,18 +221,18 @@ stops_before run history core left results t rest stream lines made is mine writ
     }
 
 -- whole first lines of the run were written
-pub lines_so_far : (run : Replay) (history : List Entry) (core : CoreState) (left : List Turn) (results : ResultWriter) (cut : Cut) (mid : List ℕ) → HasMade run history core left results → mid ≡ run.sink.written ++ lines_until run.job history
-    → Leaves cut (shown_until run.job run.whole) run.sink.written mid
+pub lines_so_far : (run : RunStart) (history : List Entry) (core : CoreState) (left : List Turn) (results : ResultWriter) (cut : Cut) (mid : List ℕ) → HasMade run history core left results → mid ≡ run.sink.written ++ lines_until run.job history
+    → Leaves cut (shown_until run.job (whole_of run)) run.sink.written mid
 lines_so_far run history core left results cut mid made written =
     let job = run.job in
     let nodes : List Node = nodes_from (run_nodes job) history in
     let rest : List Entry = turns_entries true nodes left in
-    first_written cut (shown_until job history) (shown job.form job.nodes (handed_out job.trace nodes rest)) (shown_until job run.whole) run.sink.written mid written
+    first_written cut (shown_until job history) (shown job.form job.nodes (handed_out job.trace nodes rest)) (shown_until job (whole_of run)) run.sink.written mid written
     (sym (shown-append job.form job.nodes (handed_out job.trace (run_nodes job) history) (handed_out job.trace nodes rest))
     ∙ (ap (shown job.form job.nodes) (sym (outputs-append job.trace (run_nodes job) history rest)) ∙ ap (λ (h : List Entry). shown_until job h) made.rest))
 
 -- a fault rose at the file of the stream, it is too large, or the sink's faults rose
-pub feed_why : (run : Replay) (olds news : List FeedState) (at : ℕ) (stop : FeedStop) (old new : SinkState) → StopsIn olds news at old new stop → AreSameFeeds run.feeds olds → run.sink.faults ≤ old.faults → StopCause (stop_at stop.stream stop.why) run news new
+pub feed_why : (run : RunStart) (olds news : List FeedState) (at : ℕ) (stop : FeedStop) (old new : SinkState) → StopsIn olds news at old new stop → AreSameFeeds run.feeds olds → run.sink.faults ≤ old.faults → StopCause (stop_at stop.stream stop.why) run news new
 feed_why run olds news at stop old new s same later = go stop.why s.stops
   where
     go : (why : FeedWhy) → FeedEnds s.old s.new old new why → StopCause (stop_at stop.stream why) run news new
@@ -244,7 +244,7 @@ feed_why run olds news at stop old new s same later = go stop.why s.stops
     go FlushFailed f = omega (arith, f, later)
 
 -- what arrived at a stream so far are the elements that were accepted of it
-arrived_so_far : (run : Replay) (history : List Entry) (core : CoreState) (feeds : List FeedState) (at : ℕ) (results : ResultWriter) (place : ℕ) (feed : FeedState)
+arrived_so_far : (run : RunStart) (history : List Entry) (core : CoreState) (feeds : List FeedState) (at : ℕ) (results : ResultWriter) (place : ℕ) (feed : FeedState)
     → HasMade run history core (feeds_left (streams_in run.job.nodes) feeds at) results → AreFeeds 0 (streams_in run.job.nodes) feeds → files_of feeds ≡ files_of run.feeds → slice_get feeds place ≡ Some feed → feed.is_open ≡ true
     → arrived_at place history ≡ take (count_of feed) (all_accepted feed)
 arrived_so_far run history core feeds at results place feed made f same is still =
@@ -303,7 +303,7 @@ arrived_so_far run history core feeds at results place feed made f same is still
         ∙ ap (λ (n : ℕ). drop (count_of feed) (all_accepted feed) ++ Punct (all_wild (length (stream_columns (streams_in job.nodes) n))) ∷ []) (o.is_number ∙ zero-add place)))))
 
 -- what a stream's turn that could not be made leaves
-pub feed_leaves : (run : Replay) (history : List Entry) (core : CoreState) (feeds feeds' : List FeedState) (at : ℕ) (results : ResultWriter) (stop : FeedStop) (old new : SinkState) (lines : List ℕ)
+pub feed_leaves : (run : RunStart) (history : List Entry) (core : CoreState) (feeds feeds' : List FeedState) (at : ℕ) (results : ResultWriter) (stop : FeedStop) (old new : SinkState) (lines : List ℕ)
     → HasMade run history core (feeds_left (streams_in run.job.nodes) feeds at) results → AreFeeds 0 (streams_in run.job.nodes) feeds → AreSameFeeds run.feeds feeds → AreSameFeeds feeds feeds' → StopsIn feeds feeds' at old new stop
     → AllTold run.feeds → lines ≡ run.sink.written ++ lines_until run.job history → StopLeaves (stop_at stop.stream stop.why) run feeds' lines
 unfolding stops_before
@@ -318,7 +318,7 @@ feed_leaves run history core feeds feeds' at results stop old new lines made fed
     files : files_of feeds ≡ files_of run.feeds
     files = files_still run.feeds feeds first told
 
-    stops : StopsBefore job run.whole stop.stream run.sink.written lines
+    stops : EndsBefore job (files_of run.feeds) stop.stream run.sink.written lines
     stops = let n = s.next told' (streams_in job.nodes) fed in stops_before run history core (feeds_left (streams_in job.nodes) feeds at) results n.0 n.1 stop.stream lines made n.2 n.3 written
 
     arrived : arrived_at stop.stream history ≡ take (count_of s.old) (all_accepted s.old)

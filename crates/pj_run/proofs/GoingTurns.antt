@@ -47,8 +47,8 @@ use Rattle.pj_run.proofs.Accepting.{count-accepted, count-streams, schema-is}
 use Rattle.pj_run.proofs.Carried.{turn_cut_same}
 use Rattle.pj_run.proofs.Keeping.{keeps_more, there_of}
 use Rattle.pj_run.proofs.Running.{turn_of_feeds}
-use Rattle.pj_replay.specs.Goes.{BringsAll, EndsRun, HasKept, HasLists, HasMade, IsGoing, Replay, StopCause, StopsRun}
-use Rattle.pj_replay.proofs.Going.{feed_leaves, feed_why, lines_so_far, made_next, may_follow, shown_until, turn_leaves, turn_lines, turn_made, turn_stopped, turn_why}
+use Rattle.pj_run.specs.Goes.{BringsAll, EndsRun, HasKept, HasLists, HasMade, IsGoing, RunStart, StopCause, StopLeaves, whole_of}
+use Rattle.pj_run.proofs.Going.{feed_leaves, feed_why, lines_so_far, made_next, may_follow, shown_until, turn_leaves, turn_lines, turn_made, turn_stopped, turn_why}
 
 -- the streams of a sound plan are few
 pub few_of : (nodes : List PlanNode) (feeds : List FeedState) → IsSoundPlan nodes → AreFeeds 0 (streams_in nodes) feeds → length feeds ≤ 128
@@ -61,13 +61,13 @@ there_for core feeds next accepted fed brings lists asked =
     there_of next (streams_in core.plan.nodes) accepted.lists.items (turn_of_feeds (streams_in core.plan.nodes) feeds next fed brings) (lists asked)
 
 -- the lines that are written until then, where nothing was written since
-until_now : (run : Replay) (history : List Entry) (core : CoreState) (feeds : List FeedState) (at : ℕ) (gathered : Gathered) (sink mid : SinkState) → IsGoing run history core feeds at gathered sink → WritesNothing sink mid → AllTold run.feeds → IsTrue mid.told
+until_now : (run : RunStart) (history : List Entry) (core : CoreState) (feeds : List FeedState) (at : ℕ) (gathered : Gathered) (sink mid : SinkState) → IsGoing run history core feeds at gathered sink → WritesNothing sink mid → AllTold run.feeds → IsTrue mid.told
     → mid.written ≡ run.sink.written ++ lines_until run.job history
 until_now run history core feeds at gathered sink mid going nothing told t = nothing.same t ∙ going.written told (nothing.told t)
 
 -- ---- a turn
 
-module _ (run : Replay) (history : List Entry) (core : CoreState) (feeds feeds' : List FeedState) (at at' : ℕ) (gathered : Gathered) (sink mid : SinkState) (next : Arrival) (going : IsGoing run history core feeds at gathered sink)
+module _ (run : RunStart) (history : List Entry) (core : CoreState) (feeds feeds' : List FeedState) (at at' : ℕ) (gathered : Gathered) (sink mid : SinkState) (next : Arrival) (going : IsGoing run history core feeds at gathered sink)
     (fed : AreFeeds 0 (streams_in core.plan.nodes) feeds) (nothing : WritesNothing sink mid)
     (gives : AllTold feeds → (streams : List PlanNode) → AreFeeds 0 streams feeds → feeds_left streams feeds at ≡ turn_in streams next ∷ feeds_left streams feeds' at') where
   abbrev t : Turn
@@ -95,14 +95,15 @@ module _ (run : Replay) (history : List Entry) (core : CoreState) (feeds feeds' 
       (record { many = λ a. lists a ∙ ap length streams-are; rows = going.kept told }) asked many kept (there_for core feeds next gathered.accepted fed brings lists)).rows
 
   -- it was made
-  pub going_more : (core' : CoreState) (results' : ResultWriter) (accepted' : AcceptedRows) (new : SinkState) → AreSameFeeds feeds feeds' → core.kept.undrained ≡ [] → TurnDone core core' t gathered.results results' → results'.form ≡ gathered.results.form
+  pub going_more : (core' : CoreState) (results' : ResultWriter) (accepted' : AcceptedRows) (new : SinkState) → AreSameFeeds feeds feeds' → core.kept.undrained ≡ [] → TurnDone core core' t gathered.results results' → results'.form ≡ gathered.results.form → accepted'.asked ≡ gathered.accepted.asked
       → (AllTold run.feeds → HasKept run (history ++ turn_behind core history t) accepted') → (IsTrue new.told → IsTrue mid.told) → mid.faults ≤ new.faults
       → (IsTrue new.told → (h : List Entry) → StandsFor core h → MayFollow core h (arrival_of t) → new.written ≡ mid.written ++ flat (shown gathered.results.form core.plan.nodes (turn_outs core h t)))
       → IsGoing run (history ++ turn_behind core history t) core' feeds' at' (record { results = results'; accepted = accepted' }) new
-  going_more core' results' accepted' new same drained done form kept tells later lines = record {
+  going_more core' results' accepted' new same drained done form asked kept tells later lines = record {
     plan = done.makes.plan ∙ going.plan;
     limit = done.makes.limit ∙ going.limit;
     form = form ∙ going.form;
+    asked = asked ∙ going.asked;
     same = all_same_then run.feeds feeds feeds' going.same same;
     later = omega (arith, going.later, nothing.later, later);
     made = λ told. turn_made run history core t left gathered.results going.plan going.limit (made told) core' results' drained done;
@@ -117,9 +118,9 @@ module _ (run : Replay) (history : List Entry) (core : CoreState) (feeds feeds' 
   -- it stopped
   pub turn_cut_lines : (stop : TurnStop) (new : SinkState) → (IsTrue new.told → IsTrue mid.told)
       → (IsTrue new.told → (h : List Entry) → StandsFor core h → MayFollow core h (arrival_of t) → Leaves (turn_cut stop) (shown gathered.results.form core.plan.nodes (turn_outs core h t)) mid.written new.written)
-      → AllTold run.feeds → IsTrue new.told → Leaves (run_cut (of_turn stop)) (shown_until run.job run.whole) run.sink.written new.written
+      → AllTold run.feeds → IsTrue new.told → Leaves (run_cut (of_turn stop)) (shown_until run.job (whole_of run)) run.sink.written new.written
   turn_cut_lines stop new tells lines told t' =
-      subst (λ (cut : Cut). Leaves cut (shown_until run.job run.whole) run.sink.written new.written) (sym (turn_cut_same stop))
+      subst (λ (cut : Cut). Leaves cut (shown_until run.job (whole_of run)) run.sink.written new.written) (sym (turn_cut_same stop))
       (turn_stopped run history core t left gathered.results going.plan going.limit (made told) (turn_cut stop) run.sink.written mid.written new.written
       (until_now run history core feeds at gathered sink mid going nothing told (tells t'))
       (subst (λ (f : Form). Leaves (turn_cut stop) (shown f core.plan.nodes (turn_outs core history t)) mid.written new.written) going.form (lines t' history (made told).stands (may told))))
@@ -128,7 +129,7 @@ module _ (run : Replay) (history : List Entry) (core : CoreState) (feeds feeds' 
   stops-here stop new stops told = subst (λ (f : Form). TurnStops stop f core history t mid new) going.form (stops history (made told).stands (may told))
 
   pub turn_ends : (stop : TurnStop) (new : SinkState) → (IsTrue new.told → IsTrue mid.told) → ((h : List Entry) → StandsFor core h → MayFollow core h (arrival_of t) → TurnStops stop gathered.results.form core h t mid new)
-      → StopsRun (of_turn stop) run feeds' new
+      → AllTold run.feeds → IsTrue new.told → StopLeaves (of_turn stop) run feeds' new.written
   turn_ends stop new tells stops told t' =
       turn_leaves run history core t left gathered.results going.plan going.limit (made told) stop feeds' mid new (until_now run history core feeds at gathered sink mid going nothing told (tells t')) t' (stops-here stop new stops told)
 
@@ -140,13 +141,13 @@ module _ (run : Replay) (history : List Entry) (core : CoreState) (feeds feeds' 
 
 -- ---- a stream's turn that could not be made
 
-module _ (run : Replay) (history : List Entry) (core : CoreState) (feeds feeds' : List FeedState) (at : ℕ) (gathered : Gathered) (sink mid : SinkState) (going : IsGoing run history core feeds at gathered sink) where
+module _ (run : RunStart) (history : List Entry) (core : CoreState) (feeds feeds' : List FeedState) (at : ℕ) (gathered : Gathered) (sink mid : SinkState) (going : IsGoing run history core feeds at gathered sink) where
   -- whole first lines were written
-  pub going_lines : (cut : Cut) → WritesNothing sink mid → AllTold run.feeds → IsTrue mid.told → Leaves cut (shown_until run.job run.whole) run.sink.written mid.written
+  pub going_lines : (cut : Cut) → WritesNothing sink mid → AllTold run.feeds → IsTrue mid.told → Leaves cut (shown_until run.job (whole_of run)) run.sink.written mid.written
   going_lines cut nothing told t =
       lines_so_far run history core (feeds_left (streams_in run.job.nodes) feeds at) gathered.results cut mid.written (going.made told) (until_now run history core feeds at gathered sink mid going nothing told t)
 
-  pub feed_ends : (stop : FeedStop) → WritesNothing sink mid → AreFeeds 0 (streams_in core.plan.nodes) feeds → AreSameFeeds feeds feeds' → StopsIn feeds feeds' at sink mid stop → StopsRun (of_feed stop) run feeds' mid
+  pub feed_ends : (stop : FeedStop) → WritesNothing sink mid → AreFeeds 0 (streams_in core.plan.nodes) feeds → AreSameFeeds feeds feeds' → StopsIn feeds feeds' at sink mid stop → AllTold run.feeds → IsTrue mid.told → StopLeaves (of_feed stop) run feeds' mid.written
   feed_ends stop nothing fed same stops told t =
       feed_leaves run history core feeds feeds' at gathered.results stop sink mid mid.written (going.made told)
       (subst (λ (p : RunPlan). AreFeeds 0 (streams_in p.nodes) feeds) going.plan fed) going.same same stops told (until_now run history core feeds at gathered sink mid going nothing told t)
@@ -157,7 +158,7 @@ module _ (run : Replay) (history : List Entry) (core : CoreState) (feeds feeds' 
 -- ---- nothing is left
 
 -- all rows are kept, where they are asked for
-all-kept : (run : Replay) (accepted : AcceptedRows) → BringsAll run.job (files_of run.feeds) run.whole → HasLists (length (streams_in run.job.nodes)) accepted → HasKept run run.whole accepted → AreAccepted (accepted_rows run.job (files_of run.feeds)) accepted
+all-kept : (run : RunStart) (accepted : AcceptedRows) → BringsAll run → HasLists (length (streams_in run.job.nodes)) accepted → HasKept run (whole_of run) accepted → AreAccepted (accepted_rows run.job (files_of run.feeds)) accepted
 all-kept run accepted brings many kept asked = same_lists accepted.lists.items (map rows_of lists) (many asked ∙ sym (length-map lists rows_of ∙ count-accepted (streams_in run.job.nodes) (files_of run.feeds))) at
   where
     lists : List (List Element)
@@ -168,7 +169,7 @@ all-kept run accepted brings many kept asked = same_lists accepted.lists.items (
         let there : k < length (streams_in run.job.nodes) = let m = many asked in omega (arith, lt, m) in
         let within : k < length (streams_of (run_nodes run.job)) = omega (arith, there, count-streams run.job) in
         let inside : k < length lists = omega (arith, there, count-accepted (streams_in run.job.nodes) (files_of run.feeds)) in
-        let had : arrived_at k run.whole ≡ get_or lists k [] ++ Punct (all_wild (length (stream_columns (streams_in run.job.nodes) k))) ∷ [] =
+        let had : arrived_at k (whole_of run) ≡ get_or lists k [] ++ Punct (all_wild (length (stream_columns (streams_in run.job.nodes) k))) ∷ [] =
         brings.elements k within ∙ ap (λ (ks : List Column). get_or lists k [] ++ Punct (all_wild (length ks)) ∷ []) (schema-is run.job k (length (run_nodes run.job)) there) in
         get_or_default accepted.lists.items k d [] lt
         ∙ (kept asked k there
@@ -176,17 +177,17 @@ all-kept run accepted brings many kept asked = same_lists accepted.lists.items (
         ∙ (rows_of-append (get_or lists k []) (Punct (all_wild (length (stream_columns (streams_in run.job.nodes) k))) ∷ [])
         ∙ (append-nil (rows_of (get_or lists k [])) ∙ sym (get_or-map rows_of lists k [] d inside)))))
 
-module _ (run : Replay) (history : List Entry) (core : CoreState) (feeds feeds' : List FeedState) (at : ℕ) (gathered : Gathered) (sink mid : SinkState) (going : IsGoing run history core feeds at gathered sink) (fed : AreFeeds 0 (streams_in core.plan.nodes) feeds)
+module _ (run : RunStart) (history : List Entry) (core : CoreState) (feeds feeds' : List FeedState) (at : ℕ) (gathered : Gathered) (sink mid : SinkState) (going : IsGoing run history core feeds at gathered sink) (fed : AreFeeds 0 (streams_in core.plan.nodes) feeds)
     (nothing : AllTold feeds → (streams : List PlanNode) → AreFeeds 0 streams feeds → feeds_left streams feeds at ≡ []) where
   fed-here : AreFeeds 0 (streams_in run.job.nodes) feeds
   fed-here = subst (λ (p : RunPlan). AreFeeds 0 (streams_in p.nodes) feeds) going.plan fed
 
-  all-made : AllTold run.feeds → history ≡ run.whole
+  all-made : AllTold run.feeds → history ≡ whole_of run
   all-made told =
       let none = nothing (told_still run.feeds feeds going.same told) (streams_in run.job.nodes) fed-here in
       sym (append-nil history) ∙ (ap (λ (ts : List Turn). history ++ turns_entries true (nodes_from (run_nodes run.job) history) ts) (sym none) ∙ (going.made told).rest)
 
-  pub end_lines : WritesNothing sink mid → AllTold run.feeds → IsTrue mid.told → mid.written ≡ run.sink.written ++ flat (shown_until run.job run.whole)
+  pub end_lines : WritesNothing sink mid → AllTold run.feeds → IsTrue mid.told → mid.written ≡ run.sink.written ++ flat (shown_until run.job (whole_of run))
   end_lines still told t = until_now run history core feeds at gathered sink mid going still told t ∙ ap (λ (h : List Entry). run.sink.written ++ lines_until run.job h) (all-made told)
 
   pub end_gathers : HasLists (length (streams_in core.plan.nodes)) gathered.accepted → AllClosed feeds → feeds' ≡ feeds → EndsRun run core feeds' gathered
@@ -195,6 +196,7 @@ module _ (run : Replay) (history : List Entry) (core : CoreState) (feeds feeds' 
     gathers = λ told. record {
       each = ap tallies_in same ∙ (all_tallied 0 (streams_in run.job.nodes) feeds fed-here closed (told_still run.feeds feeds going.same told) ∙ ap (tallies_of (streams_in run.job.nodes)) (files_still run.feeds feeds going.same told));
       results = (going.made told).taken ∙ ap (λ (h : List Entry). taken_so_far run.job.form (elements_out (handed_out run.job.trace (run_nodes run.job) h))) (all-made told);
+      asked = going.asked;
       rows = all-kept run gathered.accepted (going.made told).brings (λ a. lists a ∙ ap (λ (p : RunPlan). length (streams_in p.nodes)) going.plan) (subst (λ (h : List Entry). HasKept run h gathered.accepted) (all-made told) (going.kept told));
     };
   }

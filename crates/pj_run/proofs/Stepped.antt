@@ -1,8 +1,9 @@
 -- Steps of a feed behind lines that accept nothing.
-use Rattle.std.proofs.Common.{◌∙◌, arith}
+use Rattle.std.proofs.Common.{◌≡◌, ◌∙◌, ◌⊎◌, ℕ, List, [], true, ap, arith, inl, inr}
 use Rattle.pj_feed.specs.declared.feeds.Arrival.{Arrival}
 use Rattle.pj_feed.specs.Feeds.{AcceptsNone, ComesBehind, FeedState, HasPassed}
 use Rattle.pj_feed.proofs.AllFeeds.{same_then}
+use Rattle.pj_intake.specs.Taking.{IntakeState, waits_for_read}
 
 pub comes-then : (f g h : FeedState) (next : Arrival) → AcceptsNone f g → ComesBehind g h next → ComesBehind f h next
 comes-then f g h next none comes = record { accepted = λ es had. comes.accepted es (none.accepted es had); still = comes.still }
@@ -18,3 +19,8 @@ passed-then f g h a b = record {
   count = b.count ∙ a.count;
   works = omega (arith, a.works, b.works);
 }
+
+-- what the sink held back was handed on, where the feed waited for a read at first
+pub handed-then : (first here : IntakeState) (before now : List ℕ) → (here ≡ first) ⊎ (waits_for_read first ≡ true → before ≡ []) → (waits_for_read here ≡ true → now ≡ []) → (before ≡ [] → now ≡ []) → waits_for_read first ≡ true → now ≡ []
+handed-then first here before now (inl same) handed none waits = handed (ap waits_for_read same ∙ waits)
+handed-then first here before now (inr had) handed none waits = none (had waits)

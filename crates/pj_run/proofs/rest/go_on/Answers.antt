@@ -1,21 +1,26 @@
-use Rattle.std.proofs.Common.{◌∙◌, ◌≡◌, ◌++◌, ◌∷◌, [], List, Err, Some, ap, arith, length, refl, subst, sym}
+use Rattle.std.proofs.Common.{◌∙◌, ◌≡◌, ◌++◌, ◌∷◌, List, [], Err, Some, ap, arith, length, refl, subst, sym}
 use Rattle.pj_core.specs.Calls.{turn_behind}
 use Rattle.pj_core.specs.Plans.{RunPlan}
+use Rattle.pj_events.specs.Outcomes.{elements_out}
 use Rattle.pj_feed.specs.Feeds.{AllTold, AreAllTaken, AreFeeds, BringsIn, feeds_left, turn_in}
 use Rattle.pj_feed.proofs.AllFeeds.{all_same, all_same_then, all_taken}
 use Rattle.pj_feed.proofs.Answered.{err_is, if_err}
 use Rattle.pj_plan.specs.declared.node.PlanNode.{PlanNode}
 use Rattle.pj_plan.specs.Nodes.{streams_in}
-use Rattle.pj_report.specs.Written.{between}
-use Rattle.pj_run.specs.Cuts.{run_cut}
+use Rattle.pj_report.specs.Written.{Cut, between}
+use Rattle.pj_run.specs.Cuts.{run_cut, turn_cut}
+use Rattle.pj_run.specs.PlanNames.{HasShortNames}
 use Rattle.pj_run.specs.Stops.{of_feed}
+use Rattle.pj_run.specs.Whole.{LeavesWhole}
+use Rattle.pj_run.proofs.Carried.{turn_cut_same}
 use Rattle.pj_run.proofs.Ending.{brings_none, brings_some, given_none, given_some, same_none}
 use Rattle.pj_run.proofs.Running.{turn_of_feeds}
-use Rattle.pj_replay.specs.Goes.{HasLists, StopCause, StopsRun}
-use Rattle.pj_replay.proofs.Turns.{end_gathers, end_lines, feed_causes, feed_ends, few_of, going_lines, going_more, kept_more, there_for, turn_causes, turn_cut_lines, turn_ends}
-use Rattle.pj_replay.proofs.rest.go_on.Given.{Over}
-use Rattle.pj_replay.proofs.rest.go_on.Goals.{In-Some, In_default}
-use Rattle.pj_replay.proofs.rest.go_on.Goals as goal
+use Rattle.pj_run.proofs.WholeLaws.{leaves_then, leaves_wrote, none_wrote, wrote_same, wrote_then}
+use Rattle.pj_run.specs.Goes.{HasLists, StopCause, StopLeaves}
+use Rattle.pj_run.proofs.GoingTurns.{end_gathers, end_lines, feed_causes, feed_ends, few_of, going_lines, going_more, kept_more, there_for, turn_causes, turn_cut_lines, turn_ends}
+use Rattle.pj_run.proofs.rest.go_on.Given.{Over}
+use Rattle.pj_run.proofs.rest.go_on.Goals.{In-Some, In_default}
+use Rattle.pj_run.proofs.rest.go_on.Goals as goal
 
 pub turns-init : goal.turns-init
 turns-init g c = record {
@@ -24,10 +29,11 @@ turns-init g c = record {
   drained = c.requires.drained;
   fed = c.requires.feeds;
   lists = c.requires.lists;
-  asked = refl;
   same = all_same c.args.feeds.now.feeds.items;
   told = λ t. t;
   later = omega arith;
+  whole = λ names t. none_wrote _;
+  taken = λ form had. had;
   goes = λ run history going. (history, going);
 }
 
@@ -46,11 +52,11 @@ returns-in_err-next-clause-lines g c = λ run history going told t.
     (going_lines run now.0 c.turns.core c.turns.feeds.feeds.items c.turns.feeds.feeds.items c.turns.feeds.at c.turns.gathered (g.K.Sink.state c.turns.out) (g.K.Sink.state c.next_turn.new.out) now.1 (run_cut (of_feed c.in_err-next.field-0.0)) c.in_err-next.ensures.written told t)
 
 pub returns-in_err-next-clause-ends : goal.returns-in_err-next-clause-ends
-returns-in_err-next-clause-ends g c = λ run history going.
+returns-in_err-next-clause-ends g c = λ run history going told t.
     let now = c.turns.invariant.goes run history going in
-    if_err (λ stop. StopsRun stop run c.next_turn.new.feeds.feeds.items (g.K.Sink.state c.next_turn.new.out)) c.from_residual.result _ c.from_residual.ensures.1
+    if_err (λ stop. StopLeaves stop run c.next_turn.new.feeds.feeds.items (g.K.Sink.state c.next_turn.new.out).written) c.from_residual.result _ c.from_residual.ensures.1
     (feed_ends run now.0 c.turns.core c.turns.feeds.feeds.items c.next_turn.new.feeds.feeds.items c.turns.feeds.at c.turns.gathered (g.K.Sink.state c.turns.out) (g.K.Sink.state c.next_turn.new.out) now.1 c.in_err-next.field-0.0
-    c.in_err-next.ensures.written (subst (λ (p : RunPlan). AreFeeds 0 (streams_in p.nodes) c.turns.feeds.feeds.items) (sym c.turns.invariant.plan) c.turns.invariant.fed) c.in_err-next.ensures.same c.in_err-next.ensures.stops)
+    c.in_err-next.ensures.written (subst (λ (p : RunPlan). AreFeeds 0 (streams_in p.nodes) c.turns.feeds.feeds.items) (sym c.turns.invariant.plan) c.turns.invariant.fed) c.in_err-next.ensures.same c.in_err-next.ensures.stops told t)
 
 pub returns-in_err-next-clause-causes : goal.returns-in_err-next-clause-causes
 returns-in_err-next-clause-causes g c = λ run history going.
@@ -88,6 +94,9 @@ returns-in_err-keep-clause-lines g c = λ run history going told t.
     rw (err_is c.from_residual-in_err-keep.result _ c.from_residual-in_err-keep.ensures.1)
     (going_lines run now.0 c.turns.core c.turns.feeds.feeds.items c.turns.feeds.feeds.items c.turns.feeds.at c.turns.gathered (g.K.Sink.state c.turns.out) (g.K.Sink.state c.next_turn.new.out) now.1 between c.in_ok-next.ensures.written told t)
 
+pub returns-in_err-keep-clause-ends : goal.returns-in_err-keep-clause-ends
+returns-in_err-keep-clause-ends g c = λ run history going told t. if_err _ c.from_residual-in_err-keep.result _ c.from_residual-in_err-keep.ensures.1 tt
+
 -- ---- a turn
 
 pub take_turn-requires-clause-of : goal.take_turn-requires-clause-of
@@ -104,15 +113,20 @@ turns-preserved g c =
       drained = e.done.makes.undrained;
       fed = c.in_ok-next.ensures.fed (streams_in c.args.core.now.plan.nodes) c.turns.invariant.fed;
       lists = λ asked. c.in_ok-keep.ensures.many ∙ c.turns.invariant.lists (sym c.in_ok-keep.ensures.asked ∙ asked);
-      asked = c.in_ok-keep.ensures.asked ∙ c.turns.invariant.asked;
       same = all_same_then c.args.feeds.now.feeds.items c.turns.feeds.feeds.items c.next_turn.new.feeds.feeds.items c.turns.invariant.same c.in_ok-next.ensures.same;
       told = λ t. c.turns.invariant.told (c.in_ok-next.ensures.written.told (e.told t));
       later = omega (arith, c.turns.invariant.later, c.in_ok-next.ensures.written.later, e.later);
+      whole = λ names t'.
+          let told = e.told t' in
+          wrote_then (g.K.Sink.state c.args.out.now).written (g.K.Sink.state c.next_turn.new.out).written (g.K.Sink.state c.take_turn.new.out).written
+          (wrote_same _ _ _ (c.in_ok-next.ensures.written.same told) (c.turns.invariant.whole names (c.in_ok-next.ensures.written.told told)))
+          (e.whole (subst (λ (p : RunPlan). HasShortNames p.nodes) (sym c.turns.invariant.plan) names) t');
+      taken = λ form had. let t = c.turns.invariant.taken form had in (t.0 ++ elements_out e.done.outs, e.done.taken form t.0 t.1);
       goes = λ run history going.
           let now = c.turns.invariant.goes run history going in (
             now.0 ++ turn_behind c.turns.core now.0 (turn_in (streams_in c.turns.core.plan.nodes) c.in-Some.next),
             going_more run now.0 c.turns.core c.turns.feeds.feeds.items c.next_turn.new.feeds.feeds.items c.turns.feeds.at c.next_turn.new.feeds.at c.turns.gathered (g.K.Sink.state c.turns.out) (g.K.Sink.state c.next_turn.new.out) c.in-Some.next now.1 (fed g a) c.in_ok-next.ensures.written (gives g a)
-                c.take_turn.new.core c.take_turn.new.results c.keep.new.self (g.K.Sink.state c.take_turn.new.out) c.in_ok-next.ensures.same c.turns.invariant.drained e.done e.form
+                c.take_turn.new.core c.take_turn.new.results c.keep.new.self (g.K.Sink.state c.take_turn.new.out) c.in_ok-next.ensures.same c.turns.invariant.drained e.done e.form c.in_ok-keep.ensures.asked
                 (kept_more run now.0 c.turns.core c.turns.feeds.feeds.items c.next_turn.new.feeds.feeds.items c.turns.feeds.at c.next_turn.new.feeds.at c.turns.gathered (g.K.Sink.state c.turns.out) (g.K.Sink.state c.next_turn.new.out) c.in-Some.next now.1 (fed g a) c.in_ok-next.ensures.written (gives g a)
                 c.keep.new.self (lists g a) (brings g a) c.in_ok-keep.ensures.asked c.in_ok-keep.ensures.many c.in_ok-keep.ensures.kept)
                 e.told e.later e.lines,
@@ -131,12 +145,12 @@ returns-in_err-take_turn-clause-lines g c = λ run history going told t.
     c.in_err-take_turn.field-0.0 (g.K.Sink.state c.take_turn.new.out) c.in_err-take_turn.ensures.told c.in_err-take_turn.ensures.lines told t)
 
 pub returns-in_err-take_turn-clause-ends : goal.returns-in_err-take_turn-clause-ends
-returns-in_err-take_turn-clause-ends g c = λ run history going.
+returns-in_err-take_turn-clause-ends g c = λ run history going told t.
     let a = (goal.at.returns-in_err-take_turn-clause-ends g c).In-Some in
     let now = c.turns.invariant.goes run history going in
-    if_err (λ stop. StopsRun stop run c.next_turn.new.feeds.feeds.items (g.K.Sink.state c.take_turn.new.out)) c.from_residual-in_err-take_turn.result _ c.from_residual-in_err-take_turn.ensures.1
+    if_err (λ stop. StopLeaves stop run c.next_turn.new.feeds.feeds.items (g.K.Sink.state c.take_turn.new.out).written) c.from_residual-in_err-take_turn.result _ c.from_residual-in_err-take_turn.ensures.1
     (turn_ends run now.0 c.turns.core c.turns.feeds.feeds.items c.next_turn.new.feeds.feeds.items c.turns.feeds.at c.next_turn.new.feeds.at c.turns.gathered (g.K.Sink.state c.turns.out) (g.K.Sink.state c.next_turn.new.out) c.in-Some.next now.1 (fed g a) c.in_ok-next.ensures.written (gives g a)
-    c.in_err-take_turn.field-0.0 (g.K.Sink.state c.take_turn.new.out) c.in_err-take_turn.ensures.told c.in_err-take_turn.ensures.stops)
+    c.in_err-take_turn.field-0.0 (g.K.Sink.state c.take_turn.new.out) c.in_err-take_turn.ensures.told c.in_err-take_turn.ensures.stops told t)
 
 pub returns-in_err-take_turn-clause-causes : goal.returns-in_err-take_turn-clause-causes
 returns-in_err-take_turn-clause-causes g c = λ run history going.
@@ -176,3 +190,33 @@ returns-clause-taken g c =
     let closed = brings_none c.turns.feeds.feeds.items c.in_ok-next.field-0 c.in_default.is c.in_ok-next.ensures.brings in
     let same = same_none c.turns.feeds.feeds.items c.next_turn.new.feeds.feeds.items c.in_ok-next.field-0 c.in_default.is c.in_ok-next.ensures.nothing in
     subst AreAllTaken (sym same) (all_taken 0 (streams_in c.args.core.now.plan.nodes) c.turns.feeds.feeds.items c.turns.invariant.fed closed)
+
+-- ---- whole lines, and what the writer has taken
+
+pub returns-in_err-next-clause-whole : goal.returns-in_err-next-clause-whole
+returns-in_err-next-clause-whole g c = λ names t.
+    rw (err_is c.from_residual.result _ c.from_residual.ensures.1)
+    (leaves_wrote (run_cut (of_feed c.in_err-next.field-0.0)) _ _ (wrote_same _ _ _ (c.in_err-next.ensures.written.same t) (c.turns.invariant.whole names (c.in_err-next.ensures.written.told t))))
+
+pub returns-in_err-keep-clause-whole : goal.returns-in_err-keep-clause-whole
+returns-in_err-keep-clause-whole g c = λ names t.
+    rw (err_is c.from_residual-in_err-keep.result _ c.from_residual-in_err-keep.ensures.1)
+    (wrote_same _ _ _ (c.in_ok-next.ensures.written.same t) (c.turns.invariant.whole names (c.in_ok-next.ensures.written.told t)))
+
+pub returns-in_err-take_turn-clause-whole : goal.returns-in_err-take_turn-clause-whole
+returns-in_err-take_turn-clause-whole g c = λ names t.
+    let stop = c.in_err-take_turn.field-0.0 in
+    let first = (g.K.Sink.state c.args.out.now).written in
+    let mid = (g.K.Sink.state c.next_turn.new.out).written in
+    let after = (g.K.Sink.state c.take_turn.new.out).written in
+    let told = c.in_err-take_turn.ensures.told t in
+    rw (err_is c.from_residual-in_err-take_turn.result _ c.from_residual-in_err-take_turn.ensures.1)
+    (subst (λ (cut : Cut). LeavesWhole cut first after) (sym (turn_cut_same stop))
+    (leaves_then (turn_cut stop) first mid after (wrote_same _ _ _ (c.in_ok-next.ensures.written.same told) (c.turns.invariant.whole names (c.in_ok-next.ensures.written.told told)))
+    (c.in_err-take_turn.ensures.whole (subst (λ (p : RunPlan). HasShortNames p.nodes) (sym c.turns.invariant.plan) names) t)))
+
+pub returns-clause-whole : goal.returns-clause-whole
+returns-clause-whole g c = λ names t. wrote_same _ _ _ (c.in_ok-next.ensures.written.same t) (c.turns.invariant.whole names (c.in_ok-next.ensures.written.told t))
+
+pub returns-clause-has_taken : goal.returns-clause-has_taken
+returns-clause-has_taken g c = λ form had. c.turns.invariant.taken form had

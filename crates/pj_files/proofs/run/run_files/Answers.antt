@@ -1,0 +1,155 @@
+use Rattle.std.proofs.Common.{◌≡◌, ◌++◌, List, ℕ, Result, Err, IfErr, OnOk, ap, subst}
+use Rattle.pj_feed.specs.Feeds.{files_of}
+use Rattle.pj_feed.specs.Opened.{AreFeedsOf}
+use Rattle.pj_feed.proofs.Opening.{new_of}
+use Rattle.pj_feed.proofs.Outside.{close_stays_all, tries_none}
+use Rattle.pj_plan.specs.declared.node.PlanNode.{PlanNode}
+use Rattle.pj_plan.specs.Nodes.{streams_in}
+use Rattle.pj_report.specs.Written.{between, flat, Leaves, WritesBy}
+use Rattle.pj_report.proofs.LinesWritten.{none_written}
+use Rattle.pj_run.specs.declared.stops.RunStop.{RunStop}
+use Rattle.pj_run.specs.Cuts.{run_cut}
+use Rattle.pj_run.specs.RunEnds.{AreRead, FeedsCause, FeedsEnd}
+use Rattle.pj_run.specs.Runs.{IsEnabled, due_lines, job_by}
+use Rattle.pj_run.proofs.FilesRun.{AreAllOpened, all_opened, open_cause, open_end, open_opened, read_to_end, run_cause, run_end, still_read}
+use Rattle.pj_files.proofs.run.run_files.Given.{Over}
+use Rattle.pj_files.proofs.run.run_files.Goals.{In-Ok-open_feeds}
+use Rattle.pj_files.proofs.run.run_files.Goals as goal
+
+-- all files were opened
+opened : (g : Over) (c : In-Ok-open_feeds g) → AreAllOpened (job_by c.args.script.now c.args.writing c.args.core) c.args.names.now (g.F.Folder.state c.args.folder.now) c.open_feeds.new.feeds.items
+opened g c =
+    all_opened (job_by c.args.script.now c.args.writing c.args.core) (streams_in c.plan.result.now.nodes) c.args.names.now (g.F.Folder.state c.args.folder.now) c.open_feeds.new.feeds.items (ap streams_in c.plan.ensures) c.requires.each
+    c.in-Ok-open_feeds.ensures.feeds c.in-Ok-open_feeds.ensures.all
+
+pub run_feeds-core-requires-clause-feeds : goal.run_feeds-core-requires-clause-feeds
+run_feeds-core-requires-clause-feeds g c = (opened g (goal.at.run_feeds-core-requires-clause-feeds g c).In-Ok-open_feeds).fed
+
+pub run_feeds-core-requires-clause-none : goal.run_feeds-core-requires-clause-none
+run_feeds-core-requires-clause-none g c =
+    new_of 0 (streams_in c.args.core.plan.nodes) c.args.names.now (g.F.Folder.state c.args.folder.now) c.open_feeds.new.feeds.items (opened g (goal.at.run_feeds-core-requires-clause-none g c).In-Ok-open_feeds).of
+
+-- ---- the run was made
+
+pub returns-in-Ok-ended-clause-lines : goal.returns-in-Ok-ended-clause-lines
+returns-in-Ok-ended-clause-lines g c = λ told t.
+    let job = job_by c.args.script.now c.args.writing c.args.core in
+    let sink = g.K.Sink.state c.args.out.now in
+    let sink' = g.K.Sink.state c.run_feeds-core.new.out in
+    let files = (opened g (goal.at.returns-in-Ok-ended-clause-lines g c).In-Ok-open_feeds).told told in
+    subst (λ (fs : List (List ℕ)). sink'.written ≡ sink.written ++ flat (due_lines job fs)) files.1
+    (subst (λ (r : Result (Unit {0}) RunStop). WritesBy run_cut (due_lines job (files_of c.open_feeds.new.feeds.items)) sink sink' r) c.in-Ok-ended.is (c.run_feeds-core.ensures.lines files.0 t))
+
+pub returns-in-Ok-ended-clause-enabled : goal.returns-in-Ok-ended-clause-enabled
+returns-in-Ok-ended-clause-enabled g c = λ told.
+    let job = job_by c.args.script.now c.args.writing c.args.core in
+    let files = (opened g (goal.at.returns-in-Ok-ended-clause-enabled g c).In-Ok-open_feeds).told told in
+    subst (λ (fs : List (List ℕ)). IsEnabled job fs) files.1
+    (subst (λ (r : Result (Unit {0}) RunStop). OnOk r (IsEnabled job (files_of c.open_feeds.new.feeds.items))) c.in-Ok-ended.is (c.run_feeds-core.ensures.enabled files.0))
+
+pub returns-in-Ok-ended-clause-last : goal.returns-in-Ok-ended-clause-last
+returns-in-Ok-ended-clause-last g c =
+    let feeds = c.open_feeds.new.feeds.items in
+    let mid = g.F.Folder.state c.open_feeds.new.folder in
+    let after = g.F.Folder.state c.run_feeds-core.new.folder in
+    read_to_end (job_by c.args.script.now c.args.writing c.args.core) c.args.names.now (g.F.Folder.state c.args.folder.now) mid after feeds (opened g (goal.at.returns-in-Ok-ended-clause-last g c).In-Ok-open_feeds)
+    (subst (λ (r : Result (Unit {0}) RunStop). OnOk r (AreRead feeds mid after)) c.in-Ok-ended.is c.run_feeds-core.ensures.last)
+
+pub returns-in-Ok-ended-clause-keeps : goal.returns-in-Ok-ended-clause-keeps
+returns-in-Ok-ended-clause-keeps g c = λ name told had.
+    let feeds = c.open_feeds.new.feeds.items in
+    let mid = g.F.Folder.state c.open_feeds.new.folder in
+    let after = g.F.Folder.state c.run_feeds-core.new.folder in
+    still_read (job_by c.args.script.now c.args.writing c.args.core) c.args.names.now (g.F.Folder.state c.args.folder.now) mid after feeds name (opened g (goal.at.returns-in-Ok-ended-clause-keeps g c).In-Ok-open_feeds)
+    (c.in-Ok-open_feeds.ensures.last (λ bad. cc)) told had (subst (λ (r : Result (Unit {0}) RunStop). OnOk r (AreRead feeds mid after)) c.in-Ok-ended.is c.run_feeds-core.ensures.last)
+
+-- ---- it ended before its end
+
+pub returns-in-Err-ended-clause-lines : goal.returns-in-Err-ended-clause-lines
+returns-in-Err-ended-clause-lines g c = λ told t.
+    let job = job_by c.args.script.now c.args.writing c.args.core in
+    let sink = g.K.Sink.state c.args.out.now in
+    let sink' = g.K.Sink.state c.run_feeds-core.new.out in
+    let files = (opened g (goal.at.returns-in-Err-ended-clause-lines g c).In-Ok-open_feeds).told told in
+    subst (λ (fs : List (List ℕ)). Leaves (run_cut c.in-Err-ended.stop) (due_lines job fs) sink.written sink'.written) files.1
+    (subst (λ (r : Result (Unit {0}) RunStop). WritesBy run_cut (due_lines job (files_of c.open_feeds.new.feeds.items)) sink sink' r) c.in-Err-ended.is (c.run_feeds-core.ensures.lines files.0 t))
+
+pub returns-in-Err-ended-clause-ends : goal.returns-in-Err-ended-clause-ends
+returns-in-Err-ended-clause-ends g c = λ told t.
+    let job = job_by c.args.script.now c.args.writing c.args.core in
+    let feeds = c.open_feeds.new.feeds.items in
+    let mid = g.F.Folder.state c.open_feeds.new.folder in
+    let after = g.F.Folder.state c.run_feeds-core.new.folder in
+    let written = (g.K.Sink.state c.args.out.now).written in
+    let lines = (g.K.Sink.state c.run_feeds-core.new.out).written in
+    let all = opened g (goal.at.returns-in-Err-ended-clause-ends g c).In-Ok-open_feeds in
+    run_end c.in-Err-ended.stop job c.args.names.now (g.F.Folder.state c.args.folder.now) mid after feeds written lines all told
+    (subst (λ (r : Result (Unit {0}) RunStop). IfErr r (λ stop. FeedsEnd stop job feeds mid after written lines)) c.in-Err-ended.is (c.run_feeds-core.ensures.ends (all.told told).0 t))
+
+pub returns-in-Err-ended-clause-causes : goal.returns-in-Err-ended-clause-causes
+returns-in-Err-ended-clause-causes g c =
+    let job = job_by c.args.script.now c.args.writing c.args.core in
+    let feeds = c.open_feeds.new.feeds.items in
+    let mid = g.F.Folder.state c.open_feeds.new.folder in
+    let after = g.F.Folder.state c.run_feeds-core.new.folder in
+    let sink = g.K.Sink.state c.args.out.now in
+    let sink' = g.K.Sink.state c.run_feeds-core.new.out in
+    run_cause c.in-Err-ended.stop job c.args.names.now (g.F.Folder.state c.args.folder.now) mid after feeds sink sink' (opened g (goal.at.returns-in-Err-ended-clause-causes g c).In-Ok-open_feeds) c.in-Ok-open_feeds.ensures.later
+    (subst (λ (r : Result (Unit {0}) RunStop). IfErr r (λ stop. FeedsCause stop job feeds mid after sink sink')) c.in-Err-ended.is c.run_feeds-core.ensures.causes)
+
+-- ---- not all files were opened
+
+pub returns-in_default-clause-opened : goal.returns-in_default-clause-opened
+returns-in_default-clause-opened g c = tries_none c.args.names.now (g.F.Folder.state c.args.folder.now)
+
+pub returns-in-Err-clause-lines : goal.returns-in-Err-clause-lines
+returns-in-Err-clause-lines g c = λ told t. none_written between _ _
+
+pub returns-in-Err-clause-ends : goal.returns-in-Err-clause-ends
+returns-in-Err-clause-ends g c = λ told t.
+    let job = job_by c.args.script.now c.args.writing c.args.core in
+    let names = c.args.names.now in
+    let old = g.F.Folder.state c.args.folder.now in
+    let mid = g.F.Folder.state c.open_feeds.new.folder in
+    let after = g.F.Folder.state c.close_feeds.new.folder in
+    let feeds = c.open_feeds.new.feeds.items in
+    let of : AreFeedsOf 0 (streams_in job.nodes) names old feeds = subst (λ (ss : List PlanNode). AreFeedsOf 0 ss names old feeds) (ap streams_in c.plan.ensures) c.in-Err.ensures.feeds in
+    open_end c.in-Err.stop job names old mid after feeds (g.K.Sink.state c.args.out.now).written of c.close_feeds.ensures.last (λ other. c.in-Err.ensures.last (λ e. other (cc e)))
+    (λ stream is. c.in-Err.ensures.fault stream (ap Err is))
+
+pub returns-in-Err-clause-opened : goal.returns-in-Err-clause-opened
+returns-in-Err-clause-opened g c =
+    let streams = streams_in c.args.core.plan.nodes in
+    let names = c.args.names.now in
+    let old = g.F.Folder.state c.args.folder.now in
+    let mid = g.F.Folder.state c.open_feeds.new.folder in
+    let after = g.F.Folder.state c.close_feeds.new.folder in
+    let feeds = c.open_feeds.new.feeds.items in
+    let of = subst (λ (ss : List PlanNode). AreFeedsOf 0 ss names old feeds) (ap streams_in c.plan.ensures) c.in-Err.ensures.feeds in
+    open_opened c.in-Err.stop streams names old mid after feeds of c.close_feeds.ensures.others c.in-Err.ensures.some_opened (λ stream is. c.in-Err.ensures.fault stream (ap Err is)) c.close_feeds.ensures.still_opened
+
+pub returns-in-Err-clause-causes : goal.returns-in-Err-clause-causes
+returns-in-Err-clause-causes g c =
+    open_cause c.in-Err.stop (job_by c.args.script.now c.args.writing c.args.core) c.args.names.now (g.F.Folder.state c.args.folder.now) (g.F.Folder.state c.open_feeds.new.folder) (g.F.Folder.state c.close_feeds.new.folder)
+    c.open_feeds.new.feeds.items (g.K.Sink.state c.args.out.now) (g.K.Sink.state c.args.out.now) (λ stream is. c.in-Err.ensures.fault stream (ap Err is)) c.close_feeds.ensures.later
+
+-- ---- other names
+
+pub returns-in-Ok-ended-clause-others : goal.returns-in-Ok-ended-clause-others
+returns-in-Ok-ended-clause-others g c =
+    close_stays_all 0 (streams_in c.args.core.plan.nodes) c.args.names.now (g.F.Folder.state c.args.folder.now) (g.F.Folder.state c.open_feeds.new.folder) (g.F.Folder.state c.run_feeds-core.new.folder) c.open_feeds.new.feeds.items
+    (opened g (goal.at.returns-in-Ok-ended-clause-others g c).In-Ok-open_feeds).of c.run_feeds-core.ensures.others c.open_feeds.ensures.others
+
+pub returns-in-Err-ended-clause-others : goal.returns-in-Err-ended-clause-others
+returns-in-Err-ended-clause-others g c =
+    close_stays_all 0 (streams_in c.args.core.plan.nodes) c.args.names.now (g.F.Folder.state c.args.folder.now) (g.F.Folder.state c.open_feeds.new.folder) (g.F.Folder.state c.run_feeds-core.new.folder) c.open_feeds.new.feeds.items
+    (opened g (goal.at.returns-in-Err-ended-clause-others g c).In-Ok-open_feeds).of c.run_feeds-core.ensures.others c.open_feeds.ensures.others
+
+pub returns-in-Err-clause-others : goal.returns-in-Err-clause-others
+returns-in-Err-clause-others g c =
+    let streams = streams_in c.args.core.plan.nodes in
+    let names = c.args.names.now in
+    let old = g.F.Folder.state c.args.folder.now in
+    let feeds = c.open_feeds.new.feeds.items in
+    let of = subst (λ (ss : List PlanNode). AreFeedsOf 0 ss names old feeds) (ap streams_in c.plan.ensures) c.in-Err.ensures.feeds in
+    close_stays_all 0 streams names old (g.F.Folder.state c.open_feeds.new.folder) (g.F.Folder.state c.close_feeds.new.folder) feeds of c.close_feeds.ensures.others c.open_feeds.ensures.others
