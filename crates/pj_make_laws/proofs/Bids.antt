@@ -127,7 +127,7 @@ accepted_bids f seed count most few before =
 
 -- one where the row is of the item of this number
 abbrev pub of_item : Value → List Value → ℕ
-of_item item row = cond (value_eq item (value_at row 0)) 1 0
+of_item item cells = cond (value_eq item (value_at cells 0)) 1 0
 
 other_counts : (item : Value) (number : ℕ) → value_eq item (int number) ≡ false → BidsWeigh (of_item item) number 0
 other_counts item number other state = let none : of_item item (bid_row number (drawn state)) ≡ 0 = ap (λ (b : Bool). cond b 1 0) other in omega (arith, none)

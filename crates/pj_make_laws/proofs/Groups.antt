@@ -55,7 +55,7 @@ top_small [] all = omega arith
 top_small (v ∷ vs) all = greatest_small v vs (all v (inl refl)) (λ w h. all w (inr h))
 
 -- where the prices of these rows are small, so are those in the last column of the answer
-pub tops_small : (rows : List (List Value)) → ((row : List Value) → In row rows → IsSmallCell (value_at row 3)) → HasSmallEnds (group_rows tops rows)
+pub tops_small : (rows : List (List Value)) → ((cells : List Value) → In cells rows → IsSmallCell (value_at cells 3)) → HasSmallEnds (group_rows tops rows)
 tops_small rows small = ends_where (group_rows tops rows) each
   where
     prices : List Value → List Value
@@ -63,7 +63,7 @@ tops_small rows small = ends_where (group_rows tops rows) each
 
     price : (key : List Value) (v : Value) → In v (prices key) → IsSmallCell v
     price key v h =
-        let of = In-map (λ row. value_at row 3) v (filter (λ row. row_eq key (picked_cells (0 ∷ []) row)) rows) h in
+        let of = In-map (λ cells. value_at cells 3) v (filter (λ row. row_eq key (picked_cells (0 ∷ []) row)) rows) h in
         subst (λ (w : Value). IsSmallCell w) of.2 (small of.0 (In-filter (λ row. row_eq key (picked_cells (0 ∷ []) row)) of.0 rows of.1).0)
 
     each : (row : List Value) → In row (group_rows tops rows) → IsSmallNumber (last_number row)

@@ -40,8 +40,8 @@ fourth (a ∷ b ∷ c ∷ more) bid two = absurd (omega (arith, two))
 
 -- where items have two cells, and the prices of bids are small, so are those of the rows that join
 pub joined_price : (items bids : List (List Value)) → ((item : List Value) → In item items → length item ≡ 2) → ((bid : List Value) → In bid bids → IsSmallCell (value_at bid 1))
-    → (row : List Value) → In row (join_answer classes (items ∷ bids ∷ [])) → IsSmallCell (value_at row 3)
-joined_price items bids two small row h =
-    let pair = answer_pair items bids row h in
-    let same : value_at pair.1 1 ≡ value_at row 3 = sym (fourth pair.0 pair.1 (two pair.0 pair.2)) ∙ ap (λ (cells : List Value). value_at cells 3) pair.4 in
+    → (joined : List Value) → In joined (join_answer classes (items ∷ bids ∷ [])) → IsSmallCell (value_at joined 3)
+joined_price items bids two small joined h =
+    let pair = answer_pair items bids joined h in
+    let same : value_at pair.1 1 ≡ value_at joined 3 = sym (fourth pair.0 pair.1 (two pair.0 pair.2)) ∙ ap (λ (cells : List Value). value_at cells 3) pair.4 in
     subst (λ (v : Value). IsSmallCell v) same (small pair.1 pair.3)
