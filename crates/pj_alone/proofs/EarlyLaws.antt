@@ -4,6 +4,7 @@ use Rattle.std.proofs.lemmas.Bool.{false≢true}
 use Rattle.pj_io.specs.Causes.{Rose}
 use Rattle.pj_io.specs.States.{FolderState, SinkState}
 use Rattle.pj_plan.specs.declared.fault.PlanFault.{PlanFault}
+use Rattle.pj_plan.specs.declared.fault.PlanWhy.{PlanWhy}
 use Rattle.pj_plan.specs.declared.node.PlanNode.{PlanNode}
 use Rattle.pj_plan.specs.declared.node.Outline.{Outline}
 use Rattle.pj_plan_text.specs.PlanRead.{plan_read}
@@ -11,17 +12,17 @@ use Rattle.pj_safety.specs.declared.risk.PlanRisk.{PlanRisk}
 use Rattle.pj_safety.specs.Safety.{IsFirstRisk, IsSafePlan}
 use Rattle.pj_safety.proofs.Risks.{risk_is_alone, risk_is_unsafe}
 use Rattle.pj_report.specs.declared.status.Status.{Status}
-use Rattle.pj_report.specs.declared.status.Status.TheVariants.{Done, Usage, OpenFault, ReadFault, PlanRefused, FileCount, Unsafe, WriteFault, NoMemory, Limit}
-use Rattle.pj_report.specs.declared.status.LimitOf.TheVariants.{Plan, Node, File}
+use Rattle.pj_report.specs.declared.status.Status.TheVariants.{Done, Usage, OpenFault, ReadFault, PlanRefused, FileCount, Unsafe, ScriptRefused, WriteFault, NoMemory, Limit}
+use Rattle.pj_report.specs.declared.status.LimitOf.TheVariants.{Plan, Script, Node, File}
 use Rattle.pj_run.specs.declared.stops.FilesStop.{FilesStop}
 use Rattle.pj_run.specs.declared.stops.FilesStop.TheVariants.{Opening, Run}
 use Rattle.pj_feed.specs.declared.stops.OpeningStop.TheVariants.{Fault, NoMemory as OpeningMemory}
-use Rattle.pj_run.specs.declared.stops.RunStop.TheVariants.{ReadFault as RunFault, TooLarge, Limit as RunLimit, WriteFailed, NoMemory as RunMemory, Cut as RunCut}
+use Rattle.pj_run.specs.declared.stops.RunStop.TheVariants.{ReadFault as RunFault, TooLarge, Limit as RunLimit, Refused as RunRefused, WriteFailed, NoMemory as RunMemory, Cut as RunCut, CutRead, CutLarge, CutRefused}
 use Rattle.pj_events.specs.declared.events.Stop.TheVariants.{Limit as CoreLimit, NoMemory as CoreMemory}
 use Rattle.pj_alone.specs.declared.stops.FileStop.TheVariants.{OpenFault as NotOpened, ReadFault as NotRead, TooLong, NoMemory as FileMemory}
 use Rattle.pj_alone.specs.declared.stops.PlanStop.{PlanStop}
-use Rattle.pj_alone.specs.declared.stops.PlanStop.TheVariants.{Usage as NoPlan, File as PlanFile, Refused, FileCount as OtherCount, Unsafe as Stuck, NoMemory as PlanMemory}
-use Rattle.pj_alone.specs.Calls.{nothing, running, checking, making, is_nothing, takes_plan, Task, Call, HasToldPlan, operand, file_names, files_asked, files_for, plan_bytes}
+use Rattle.pj_alone.specs.declared.stops.PlanStop.TheVariants.{File as PlanFile, Refused, FileCount as OtherCount, Unsafe as Stuck, NoMemory as PlanMemory}
+use Rattle.pj_alone.specs.Calls.{first_by, nothing, running, checking, making, is_nothing, takes_plan, Task, Call, HasToldPlan, operand, file_names, files_asked, files_for, plan_bytes}
 use Rattle.pj_alone.specs.Plans.{plan_of}
 use Rattle.pj_feed.specs.Opened.{OpensFirst, OpensAtMost, StayOutside}
 use Rattle.pj_judge.specs.declared.safety.Unsafe.{Unsafe as Found}
@@ -31,7 +32,7 @@ use Rattle.pj_alone.specs.Stops.{plan_status, refusal_text}
 use Rattle.pj_run.specs.Stops.{files_status}
 use Rattle.pj_alone.specs.Endings.{at_words, at_plan, at_opening, ending_of, ComesAt, EarlyLeaves, KeepsLast}
 use Rattle.pj_alone.specs.Promises.{Ends}
-use Rattle.pj_alone.specs.Top.{AnswersRefusal, HasFault, IsBuilt, IsFit, IsUnopened}
+use Rattle.pj_alone.specs.Top.{AnswersRefusal, AnswersScript, HasFault, IsBuilt, IsFit, IsUnopened}
 use Rattle.pj_report.specs.Report.{status_line}
 use Rattle.pj_report.specs.Written.{Delivered}
 use Rattle.pj_alone.proofs.Refusing.{read_as}
@@ -58,6 +59,11 @@ stuck_runs call found plan u = go call.task refl u
     go (checking print) is unfit = absurd unfit
     go (making seed count) is unfit = absurd unfit
 
+-- the streams' files stand behind the plan
+first_some : (script : Option (List ℕ)) → 2 ≤ first_by script
+first_some None = omega arith
+first_some (Some name) = omega arith
+
 -- nothing was done, and the status' line was written
 pub ended_at_words : (call : Call) (status : Status) (new : FolderState) (first after : SinkState) → ComesAt status at_words → new ≡ call.folder → EarlyLeaves status call first after → Ends (ending_of call status new first after)
 ended_at_words call status new first after comes same left = (
@@ -67,6 +73,7 @@ ended_at_words call status new first after comes same left = (
     opened_first = subst (OpensFirst 0 call.names call.folder) (sym same) (none_opened call.names call.folder);
     others_stay = subst (StayOutside (take 0 call.names) call.folder) (sym same) (all_stay (take 0 call.names) call.folder);
     built = λ past. absurd past;
+    script = tt;
     left = left;
   },
 )
@@ -81,6 +88,7 @@ module _ (call : Call) (new : FolderState) (first after : SinkState) (stay : Sta
       opened_first = opened;
       others_stay = stay;
       built = λ past. absurd past;
+      script = tt;
       left = left;
     },
   )
@@ -95,6 +103,7 @@ module _ (call : Call) (new : FolderState) (first after : SinkState) (stay : Sta
       opened_first = opened;
       others_stay = stay;
       built = λ past. absurd (omega (arith, past));
+      script = λ past. let two = first_some call.script in absurd (omega (arith, past, two));
       left = (left, keeps);
     },
   )
@@ -109,7 +118,6 @@ module _ (call : Call) (new : FolderState) (first after : SinkState) (stay : Sta
   memory_ended (suc (suc n)) most opened line = absurd (omega (arith, most))
 
   pub ended_early : (stop : PlanStop) → OpensAtMost 1 call.names call.folder new → Unprepared stop call new → Delivered (refusal_text stop) first after → Ends (ending_of call (plan_status stop) new first after)
-  ended_early NoPlan most u line = ended_at_words call Usage new first after refl u.1 line
   ended_early (PlanFile NotOpened) most u line = ended_before_plan (OpenFault 1) (0, refl, refl) u.1.0 line (λ told t n is alone. u.1.2 (slice_index_or call.names 0 []))
   ended_early (PlanFile NotRead) most u line = ended_at_plan (ReadFault 1) (inl (refl, refl)) (first_alone u.0 u.1.0) line
   ended_early (PlanFile TooLong) most u line = ended_at_plan (Limit Plan) refl (first_alone u.0 u.1.0) line
@@ -131,7 +139,6 @@ module _ (call : Call) (new : FolderState) where
   first_fault run rose = record { first = omega arith; last = some_operands run; rose = rose; later = λ more. absurd (omega (arith, more)) }
 
   pub fault_early : (stop : PlanStop) (n : ℕ) → Unprepared stop call new → plan_status stop ≡ ReadFault n → HasFault call new n
-  fault_early NoPlan n u e = absurd (cc)
   fault_early (PlanFile NotOpened) n u e = absurd (cc)
   fault_early (PlanFile NotRead) n u e = let same : 1 ≡ n = cc e in subst (HasFault call new) same (first_fault u.0 u.1.1)
   fault_early (PlanFile TooLong) n u e = absurd (cc)
@@ -142,7 +149,6 @@ module _ (call : Call) (new : FolderState) where
   fault_early PlanMemory n u e = absurd (cc)
 
   pub unopened_early : (stop : PlanStop) (n : ℕ) → Unprepared stop call new → plan_status stop ≡ OpenFault n → IsUnopened call new n
-  unopened_early NoPlan n u e = absurd (cc)
   unopened_early (PlanFile NotOpened) n u e =
       let same : 1 ≡ n = cc e in
       subst (IsUnopened call new) same (record { fault = first_fault u.0 u.1.1; before = 0; number = refl; opened = u.1.0 })
@@ -154,26 +160,8 @@ module _ (call : Call) (new : FolderState) where
   unopened_early (Stuck found) n u e = absurd (cc)
   unopened_early PlanMemory n u e = absurd (cc)
 
--- ---- words
-
--- a result that no words gave is this stop, and no other
-pub usage_alone : {T : Type 0} (result : Result T PlanStop) (stop : PlanStop) → result ≡ Err stop → result ≡ Err NoPlan → stop ≡ NoPlan
-usage_alone result stop is none = let e : Err stop ≡ Err NoPlan = sym is ∙ none in cc e
-
-pub no_words : (stop : PlanStop) (call : Call) (after : FolderState) → Unprepared stop call after → plan_status stop ≡ Usage → is_nothing call.task ≡ true
-no_words NoPlan call after u e = u.0
-no_words (PlanFile NotOpened) call after u e = absurd (cc)
-no_words (PlanFile NotRead) call after u e = absurd (cc)
-no_words (PlanFile TooLong) call after u e = absurd (cc)
-no_words (PlanFile FileMemory) call after u e = absurd (cc)
-no_words (Refused fault) call after u e = absurd (cc)
-no_words (OtherCount want got) call after u e = absurd (cc)
-no_words (Stuck found) call after u e = absurd (cc)
-no_words PlanMemory call after u e = absurd (cc)
-
 -- the lines of an unsafe plan spell no element
 pub early_lines : (stop : PlanStop) (call : Call) (after : FolderState) → Unprepared stop call after → HasLines stop
-early_lines NoPlan call after u = tt
 early_lines (PlanFile stop) call after u = tt
 early_lines (Refused fault) call after u = tt
 early_lines (OtherCount want got) call after u = tt
@@ -194,6 +182,7 @@ module _ (plan : Outline) where
   count_alone (Some files) want got (PlanRefused line why) a b = absurd b
   count_alone (Some files) want got (FileCount w g) a b = ap₂ FileCount (a.1 ∙ sym b.1) (a.2 ∙ sym b.2)
   count_alone (Some files) want got (Unsafe node risk) a b = absurd (a.0 b.0)
+  count_alone (Some files) want got (ScriptRefused line) a b = absurd b
   count_alone (Some files) want got (OpenFault n) a b = absurd b
   count_alone (Some files) want got (ReadFault n) a b = absurd b
   count_alone (Some files) want got WriteFault a b = absurd b
@@ -211,6 +200,7 @@ module _ (plan : Outline) where
   unsafe_alone files node risk (PlanRefused line why) a b = absurd b
   unsafe_alone files node risk (FileCount w g) a b = absurd (never_count files w g a.0 b)
   unsafe_alone files node risk (Unsafe n own) a b = same_risk plan.nodes node n risk own a.1 b.1
+  unsafe_alone files node risk (ScriptRefused line) a b = absurd b
   unsafe_alone files node risk (OpenFault n) a b = absurd b
   unsafe_alone files node risk (ReadFault n) a b = absurd b
   unsafe_alone files node risk WriteFault a b = absurd b
@@ -223,6 +213,7 @@ module _ (plan : Outline) where
   plan_alone files (PlanRefused line why) other a b = absurd a
   plan_alone files (FileCount want got) other a b = count_alone files want got other a b
   plan_alone files (Unsafe node risk) other a b = unsafe_alone files node risk other a b
+  plan_alone files (ScriptRefused line) other a b = absurd a
   plan_alone files (OpenFault n) other a b = absurd a
   plan_alone files (ReadFault n) other a b = absurd a
   plan_alone files WriteFault other a b = absurd a
@@ -236,6 +227,7 @@ module _ (plan : Outline) where
   never_fit files (PlanRefused line why) each safe a = a
   never_fit files (FileCount want got) each safe a = never_count files want got each a
   never_fit files (Unsafe node risk) each safe a = risk_is_unsafe plan.nodes node risk a.1 safe
+  never_fit files (ScriptRefused line) each safe a = a
   never_fit files (OpenFault n) each safe a = a
   never_fit files (ReadFault n) each safe a = a
   never_fit files WriteFault each safe a = a
@@ -271,6 +263,7 @@ refused_alone call one other (inr a) (inr b) = bytes_alone (files_asked call) (p
 abbrev pub IsOfPlan : Status → Type 0
 IsOfPlan Done = ⊥
 IsOfPlan Usage = ⊥
+IsOfPlan (ScriptRefused line) = ⊥
 IsOfPlan (OpenFault n) = ⊥
 IsOfPlan (ReadFault n) = ⊥
 IsOfPlan (PlanRefused line why) = Unit {0}
@@ -279,8 +272,27 @@ IsOfPlan (Unsafe node risk) = Unit {0}
 IsOfPlan WriteFault = ⊥
 IsOfPlan NoMemory = ⊥
 IsOfPlan (Limit Plan) = Unit {0}
+IsOfPlan (Limit Script) = ⊥
 IsOfPlan (Limit (Node node)) = ⊥
 IsOfPlan (Limit (File stream)) = ⊥
+
+-- what is so of each refusal of a plan
+pub of_plan : (P : Status → Type 0) → ((line : ℕ) (why : PlanWhy) → P (PlanRefused line why)) → ((want got : ℕ) → P (FileCount want got)) → ((node : ℕ) (risk : PlanRisk) → P (Unsafe node risk)) → P (Limit Plan)
+    → (status : Status) → IsOfPlan status → P status
+of_plan P fault count unsafe long Done of = absurd of
+of_plan P fault count unsafe long Usage of = absurd of
+of_plan P fault count unsafe long (OpenFault n) of = absurd of
+of_plan P fault count unsafe long (ReadFault n) of = absurd of
+of_plan P fault count unsafe long (PlanRefused line why) of = fault line why
+of_plan P fault count unsafe long (FileCount want got) of = count want got
+of_plan P fault count unsafe long (Unsafe node risk) of = unsafe node risk
+of_plan P fault count unsafe long (ScriptRefused line) of = absurd of
+of_plan P fault count unsafe long WriteFault of = absurd of
+of_plan P fault count unsafe long NoMemory of = absurd of
+of_plan P fault count unsafe long (Limit Plan) of = long
+of_plan P fault count unsafe long (Limit Script) of = absurd of
+of_plan P fault count unsafe long (Limit (Node node)) of = absurd of
+of_plan P fault count unsafe long (Limit (File stream)) of = absurd of
 
 -- how it is known that the bytes are refused so
 too_long : (files : Option ℕ) (bytes : List ℕ) → 1048576 < length bytes → RefusesBytes (Limit Plan) files bytes
@@ -304,7 +316,6 @@ module _ (call : Call) (run : takes_plan call.task ≡ true) where
   answers_so answer is told status refuses = inl (refused_alone call answer status (inr (run, is told)) refuses)
 
 pub refused_early : (stop : PlanStop) (call : Call) (after : FolderState) (status : Status) → Unprepared stop call after → plan_status stop ≡ status → IsOfPlan status → IsRefused call status
-refused_early NoPlan call after status u e p = absurd (subst IsOfPlan (sym e) p)
 refused_early (PlanFile NotOpened) call after status u e p = absurd (subst IsOfPlan (sym e) p)
 refused_early (PlanFile NotRead) call after status u e p = absurd (subst IsOfPlan (sym e) p)
 refused_early (PlanFile TooLong) call after status u e p = refused_so call u.0.takes (Limit Plan) status (λ told. too_long (files_asked call) (plan_bytes call) (u.1.1 told)) e
@@ -315,79 +326,69 @@ refused_early (Stuck found) call after status u e p =
     refused_so call u.0.takes (Unsafe found.node found.risk) status (λ told. is_unfit (Unsafe found.node found.risk) (files_asked call) (plan_bytes call) u.1.0.1 (stuck_of found (files_asked call) u.1.0.1 u.1.0.2).0 (u.1.0.3 told)) e
 refused_early PlanMemory call after status u e p = absurd (subst IsOfPlan (sym e) p)
 
--- a status that a run alone has
-abbrev pub IsOfRun : Status → Type 0
-IsOfRun Done = ⊥
-IsOfRun Usage = ⊥
-IsOfRun (OpenFault n) = ⊥
-IsOfRun (ReadFault n) = ⊥
-IsOfRun (PlanRefused line why) = ⊥
-IsOfRun (FileCount want got) = ⊥
-IsOfRun (Unsafe node risk) = ⊥
-IsOfRun WriteFault = Unit {0}
-IsOfRun NoMemory = ⊥
-IsOfRun (Limit Plan) = ⊥
-IsOfRun (Limit (Node node)) = Unit {0}
-IsOfRun (Limit (File stream)) = Unit {0}
+-- a status that no plan is refused with
+abbrev pub IsNoRefusal : Status → Type 0
+IsNoRefusal Done = Unit {0}
+IsNoRefusal Usage = Unit {0}
+IsNoRefusal (OpenFault n) = ⊥
+IsNoRefusal (ReadFault n) = ⊥
+IsNoRefusal (PlanRefused line why) = ⊥
+IsNoRefusal (FileCount want got) = ⊥
+IsNoRefusal (Unsafe node risk) = ⊥
+IsNoRefusal (ScriptRefused line) = Unit {0}
+IsNoRefusal WriteFault = Unit {0}
+IsNoRefusal NoMemory = ⊥
+IsNoRefusal (Limit Plan) = ⊥
+IsNoRefusal (Limit Script) = Unit {0}
+IsNoRefusal (Limit (Node node)) = Unit {0}
+IsNoRefusal (Limit (File stream)) = Unit {0}
 
-pub run_never : (stop : PlanStop) (status : Status) → plan_status stop ≡ status → IsOfRun status → ⊥
-run_never NoPlan status e p = subst IsOfRun (sym e) p
-run_never (PlanFile NotOpened) status e p = subst IsOfRun (sym e) p
-run_never (PlanFile NotRead) status e p = subst IsOfRun (sym e) p
-run_never (PlanFile TooLong) status e p = subst IsOfRun (sym e) p
-run_never (PlanFile FileMemory) status e p = subst IsOfRun (sym e) p
-run_never (Refused fault) status e p = subst IsOfRun (sym e) p
-run_never (OtherCount want got) status e p = subst IsOfRun (sym e) p
-run_never (Stuck found) status e p = subst IsOfRun (sym e) p
-run_never PlanMemory status e p = subst IsOfRun (sym e) p
+pub early_never : (stop : PlanStop) (status : Status) → plan_status stop ≡ status → IsNoRefusal status → ⊥
+early_never (PlanFile NotOpened) status e p = subst IsNoRefusal (sym e) p
+early_never (PlanFile NotRead) status e p = subst IsNoRefusal (sym e) p
+early_never (PlanFile TooLong) status e p = subst IsNoRefusal (sym e) p
+early_never (PlanFile FileMemory) status e p = subst IsNoRefusal (sym e) p
+early_never (Refused fault) status e p = subst IsNoRefusal (sym e) p
+early_never (OtherCount want got) status e p = subst IsNoRefusal (sym e) p
+early_never (Stuck found) status e p = subst IsNoRefusal (sym e) p
+early_never PlanMemory status e p = subst IsNoRefusal (sym e) p
 
-pub refused_never : (stop : FilesStop) (status : Status) → files_status stop ≡ status → IsOfPlan status → ⊥
-refused_never (Opening (Fault stream)) status e p = subst IsOfPlan (sym e) p
-refused_never (Opening OpeningMemory) status e p = subst IsOfPlan (sym e) p
-refused_never (Run (RunFault stream)) status e p = subst IsOfPlan (sym e) p
-refused_never (Run (TooLarge stream)) status e p = subst IsOfPlan (sym e) p
-refused_never (Run (RunLimit node)) status e p = subst IsOfPlan (sym e) p
-refused_never (Run (RunCut (CoreLimit node))) status e p = subst IsOfPlan (sym e) p
-refused_never (Run (RunCut CoreMemory)) status e p = subst IsOfPlan (sym e) p
-refused_never (Run WriteFailed) status e p = subst IsOfPlan (sym e) p
-refused_never (Run RunMemory) status e p = subst IsOfPlan (sym e) p
+-- a status that no run stops with
+abbrev pub IsNoStop : Status → Type 0
+IsNoStop Done = Unit {0}
+IsNoStop Usage = Unit {0}
+IsNoStop (OpenFault n) = ⊥
+IsNoStop (ReadFault n) = ⊥
+IsNoStop (PlanRefused line why) = Unit {0}
+IsNoStop (FileCount want got) = Unit {0}
+IsNoStop (Unsafe node risk) = Unit {0}
+IsNoStop (ScriptRefused line) = ⊥
+IsNoStop WriteFault = ⊥
+IsNoStop NoMemory = ⊥
+IsNoStop (Limit Plan) = Unit {0}
+IsNoStop (Limit Script) = Unit {0}
+IsNoStop (Limit (Node node)) = ⊥
+IsNoStop (Limit (File stream)) = ⊥
 
-pub usage_never : (stop : FilesStop) → files_status stop ≡ Usage → ⊥
-usage_never (Opening (Fault stream)) e = cc
-usage_never (Opening OpeningMemory) e = cc
-usage_never (Run (RunFault stream)) e = cc
-usage_never (Run (TooLarge stream)) e = cc
-usage_never (Run (RunLimit node)) e = cc
-usage_never (Run (RunCut (CoreLimit node))) e = cc
-usage_never (Run (RunCut CoreMemory)) e = cc
-usage_never (Run WriteFailed) e = cc
-usage_never (Run RunMemory) e = cc
+pub stop_never : (first : ℕ) (stop : FilesStop) (status : Status) → files_status first stop ≡ status → IsNoStop status → ⊥
+stop_never first (Opening (Fault stream)) status e p = subst IsNoStop (sym e) p
+stop_never first (Opening OpeningMemory) status e p = subst IsNoStop (sym e) p
+stop_never first (Run (RunFault stream)) status e p = subst IsNoStop (sym e) p
+stop_never first (Run (TooLarge stream)) status e p = subst IsNoStop (sym e) p
+stop_never first (Run (RunLimit node)) status e p = subst IsNoStop (sym e) p
+stop_never first (Run (RunRefused line)) status e p = subst IsNoStop (sym e) p
+stop_never first (Run (RunCut (CoreLimit node))) status e p = subst IsNoStop (sym e) p
+stop_never first (Run (RunCut CoreMemory)) status e p = subst IsNoStop (sym e) p
+stop_never first (Run (CutRead stream)) status e p = subst IsNoStop (sym e) p
+stop_never first (Run (CutLarge stream)) status e p = subst IsNoStop (sym e) p
+stop_never first (Run (CutRefused line)) status e p = subst IsNoStop (sym e) p
+stop_never first (Run WriteFailed) status e p = subst IsNoStop (sym e) p
+stop_never first (Run RunMemory) status e p = subst IsNoStop (sym e) p
 
--- neither a stop nor a refusal is an end
-pub done_never : (stop : FilesStop) → files_status stop ≡ Done → ⊥
-done_never (Opening (Fault stream)) e = cc
-done_never (Opening OpeningMemory) e = cc
-done_never (Run (RunFault stream)) e = cc
-done_never (Run (TooLarge stream)) e = cc
-done_never (Run (RunLimit node)) e = cc
-done_never (Run (RunCut (CoreLimit node))) e = cc
-done_never (Run (RunCut CoreMemory)) e = cc
-done_never (Run WriteFailed) e = cc
-done_never (Run RunMemory) e = cc
-
-pub early_never : (stop : PlanStop) → plan_status stop ≡ Done → ⊥
-early_never NoPlan e = cc
-early_never (PlanFile NotOpened) e = cc
-early_never (PlanFile NotRead) e = cc
-early_never (PlanFile TooLong) e = cc
-early_never (PlanFile FileMemory) e = cc
-early_never (Refused fault) e = cc
-early_never (OtherCount want got) e = cc
-early_never (Stuck found) e = cc
-early_never PlanMemory e = cc
+pub no_refusal : (status : Status) → IsOfPlan status → IsNoStop status
+no_refusal status of = of_plan IsNoStop (λ line why. tt) (λ want got. tt) (λ node risk. tt) tt status of
 
 pub answers_early : (stop : PlanStop) (call : Call) (after : FolderState) → Unprepared stop call after → AnswersRefusal (plan_status stop) call
-answers_early NoPlan call after u = λ told status refuses. inl (refused_alone call Usage status (inl (u.0, refl)) refuses)
 answers_early (PlanFile NotOpened) call after u = λ told status refuses. inr (inr (inl refl))
 answers_early (PlanFile NotRead) call after u = λ told status refuses. inr (inr (inr refl))
 answers_early (PlanFile TooLong) call after u = answers_so call u.0.takes (Limit Plan) (λ told. too_long (files_asked call) (plan_bytes call) (u.1.1 told))
@@ -420,5 +421,23 @@ fit_never (checking print) call status is fit told (inr refuses) =
 fit_never (making seed count) call status is fit told (inl none) = false≢true (sym (ap is_nothing is) ∙ none.0)
 fit_never (making seed count) call status is fit told (inr refuses) = false≢true (sym (ap takes_plan is) ∙ refuses.0)
 
+-- where there is something to run, its plan is not refused
+pub never_refused : (call : Call) → IsBuilt call → HasToldPlan call → (status : Status) → IsRefused call status → ⊥
+never_refused call built told status refused = fit_never running call status built.form built told (refused.1 told)
+
 pub answers_built : (call : Call) (answer : Status) → IsBuilt call → AnswersRefusal answer call
 answers_built call answer built told status refuses = absurd (fit_never running call status built.form built told refuses)
+
+-- a script is not refused before its plan was read
+pub answers_script_early : (stop : PlanStop) (call : Call) (after : FolderState) → Unprepared stop call after → AnswersScript (plan_status stop) call
+answers_script_early (PlanFile NotOpened) call after u = λ built told name is status refuses. inr (inr (1, (omega arith), inl refl))
+answers_script_early (PlanFile NotRead) call after u = λ built told name is status refuses. inr (inr (1, (omega arith), inr refl))
+answers_script_early (PlanFile TooLong) call after u = λ built told name is status refuses. absurd (never_refused call built told.0 (Limit Plan) (refused_early (PlanFile TooLong) call after (Limit Plan) u refl tt))
+answers_script_early (PlanFile FileMemory) call after u = λ built told name is status refuses. inr (inl refl)
+answers_script_early (Refused fault) call after u = λ built told name is status refuses.
+    absurd (never_refused call built told.0 (PlanRefused fault.line fault.why) (refused_early (Refused fault) call after (PlanRefused fault.line fault.why) u refl tt))
+answers_script_early (OtherCount want got) call after u = λ built told name is status refuses.
+    absurd (never_refused call built told.0 (FileCount want got) (refused_early (OtherCount want got) call after (FileCount want got) u refl tt))
+answers_script_early (Stuck found) call after u = λ built told name is status refuses.
+    absurd (never_refused call built told.0 (Unsafe found.node found.risk) (refused_early (Stuck found) call after (Unsafe found.node found.risk) u refl tt))
+answers_script_early PlanMemory call after u = λ built told name is status refuses. inr (inl refl)

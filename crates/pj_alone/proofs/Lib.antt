@@ -1,12 +1,14 @@
-pub mod AllPromises
 pub mod CallLaws
 pub mod Completing
 pub mod EarlyLaws
 pub mod MadeLaws
-pub mod FrontLaws
 pub mod MemoryLaws
 pub mod NameLaws
+pub mod Operands
+pub mod PlanPromises
 pub mod Refusing
 pub mod RunLaws
+pub mod RunPromises
+pub mod ScriptLaws
 pub mod StaysLaws
 pub mod VerdictLaws

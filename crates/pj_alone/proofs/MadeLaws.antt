@@ -1,5 +1,5 @@
 -- A made input: what is left of its lines, and why nothing else comes.
-use Rattle.std.proofs.Common.{◌≡◌, ◌≤◌, ◌<◌, ℕ, zero, suc, false, inl, inr, List, [], ◌∷◌, ◌++◌, map, length, take, Ok, Err, Some, IsTrue, refl, ap, sym, ◌∙◌, subst, arith}
+use Rattle.std.proofs.Common.{◌≡◌, ◌≤◌, ◌<◌, ℕ, zero, suc, false, inl, inr, List, [], ◌∷◌, ◌++◌, map, length, take, Ok, Err, Option, Some, None, IsTrue, refl, ap, sym, ◌∙◌, subst, arith}
 use Rattle.std.specs.Prelude.{slice_index_or, ◌^◌}
 use Rattle.std.proofs.lemmas.Bool.{false≢true}
 use Rattle.std.proofs.lemmas.List.{get_or-map, length-append}
@@ -14,8 +14,8 @@ use Rattle.pj_pattern.proofs.Elements.{puncts_of-append}
 use Rattle.pj_events.specs.declared.events.Stop.TheVariants.{Limit as CoreLimit, NoMemory as CoreMemory}
 use Rattle.pj_make_laws.specs.Made.{made_elements, made_plan}
 use Rattle.pj_report.specs.declared.status.Status.{Status}
-use Rattle.pj_report.specs.declared.status.LimitOf.TheVariants.{Plan, Node, File}
-use Rattle.pj_report.specs.declared.status.Status.TheVariants.{Done, Usage, OpenFault, ReadFault, PlanRefused, FileCount, Unsafe, WriteFault, NoMemory, Limit}
+use Rattle.pj_report.specs.declared.status.LimitOf.TheVariants.{Plan, Script, Node, File}
+use Rattle.pj_report.specs.declared.status.Status.TheVariants.{Done, Usage, OpenFault, ReadFault, PlanRefused, FileCount, Unsafe, ScriptRefused, WriteFault, NoMemory, Limit}
 use Rattle.pj_report.specs.Report.{status_line}
 use Rattle.pj_report.specs.Written.{anywhere, between, flat, holding, Delivered, FrontOf, HandedOn, Leaves, WholeLines}
 use Rattle.pj_report.proofs.LinesWritten.{none_written, stop_before, stop_then, written_then}
@@ -24,7 +24,7 @@ use Rattle.pj_feed.specs.Named.{files_named, AreTold}
 use Rattle.pj_feed.specs.Opened.{AreReadToEnd, OpensFirst, StayOutside}
 use Rattle.pj_run.specs.declared.stops.FilesStop.{FilesStop}
 use Rattle.pj_run.specs.declared.stops.FilesStop.TheVariants.{Opening, Run}
-use Rattle.pj_run.specs.declared.stops.RunStop.TheVariants.{ReadFault as RunFault, TooLarge, Limit as RunLimit, WriteFailed, NoMemory as RunMemory, Cut as RunCut}
+use Rattle.pj_run.specs.declared.stops.RunStop.TheVariants.{ReadFault as RunFault, TooLarge, Limit as RunLimit, Refused as RunRefused, WriteFailed, NoMemory as RunMemory, Cut as RunCut, CutRead, CutLarge, CutRefused}
 use Rattle.pj_run.specs.Cuts.{files_cut}
 use Rattle.pj_run.specs.RunEnds.{FilesCause}
 use Rattle.pj_run.specs.Runs.{elements_of, outputs_of, outs_of, report_of, run_lines, GoesBeyond}
@@ -36,7 +36,7 @@ use Rattle.pj_plan.specs.declared.node.Outline.{Outline}
 use Rattle.pj_plan_text.specs.PlanRead.{plan_read}
 use Rattle.pj_safety.proofs.Risks.{risk_is_unsafe}
 use Rattle.pj_alone.specs.declared.stops.PlanStop.{PlanStop}
-use Rattle.pj_alone.specs.declared.stops.PlanStop.TheVariants.{Usage as NoPlan, File as PlanFile, Refused, FileCount as OtherCount, Unsafe as Stuck, NoMemory as PlanMemory}
+use Rattle.pj_alone.specs.declared.stops.PlanStop.TheVariants.{File as PlanFile, Refused, FileCount as OtherCount, Unsafe as Stuck, NoMemory as PlanMemory}
 use Rattle.pj_alone.specs.Refusals.{BytesRefused, RefusesPlan}
 use Rattle.pj_run.proofs.OutputLaws.{outputs_answer, outputs_lawful, outputs_puncts}
 use Rattle.pj_run.proofs.Planned.{IsPlanned}
@@ -46,12 +46,11 @@ use Rattle.pj_alone.specs.declared.calls.Ready.TheVariants.{Make}
 use Rattle.pj_alone.specs.Calls.{is_nothing, making, running, takes_plan, Call}
 use Rattle.pj_alone.specs.Endings.{at_made, ending_of, ComesAt}
 use Rattle.pj_alone.specs.Made.{made_files, made_job, made_lines, IsMade, IsMemory, LinesLeft, MadeRun}
-use Rattle.pj_alone.specs.Promises.{Ends, WritesResults}
-use Rattle.pj_alone.proofs.AllPromises.{KeepsAll}
+use Rattle.pj_alone.specs.Promises.{Ends, KeepsAll, WritesResults}
 use Rattle.pj_alone.proofs.Completing.{completes_by}
 use Rattle.pj_alone.specs.Ready.{IsMakeReady, IsReadyFor}
-use Rattle.pj_alone.specs.Top.{AnswersRefusal, IsFit, WriteFails}
-use Rattle.pj_alone.proofs.EarlyLaws.{IsOfPlan}
+use Rattle.pj_alone.specs.Top.{AnswersRefusal, IsFit, IsPlayable, CanPlay, WriteFails}
+use Rattle.pj_alone.proofs.EarlyLaws.{IsOfPlan, of_plan}
 use Rattle.pj_alone.proofs.RunLaws.{earlier_rose, later_rose, same_after}
 use Rattle.pj_make_laws.proofs.Lengths.{made_files_are_short}
 use Rattle.pj_make_laws.proofs.Limits.{made_is_within_limits}
@@ -68,6 +67,7 @@ left_first Usage lines rest old mid new written le left = absurd left
 left_first (PlanRefused line why) lines rest old mid new written le left = absurd left
 left_first (FileCount want got) lines rest old mid new written le left = absurd left
 left_first (Unsafe node risk) lines rest old mid new written le left = absurd left
+left_first (ScriptRefused line) lines rest old mid new written le left = absurd left
 left_first (OpenFault n) lines rest old mid new written le left = absurd left
 left_first (ReadFault n) lines rest old mid new written le left = absurd left
 left_first WriteFault lines rest old mid new written le left = (
@@ -128,8 +128,8 @@ module _ (seed count : ℕ) (few : IsMakeable seed count) where
 
     -- how the run ends that stopped
     pub made_stopped : (stop : FilesStop) (first now last : SinkState) → FilesCause stop made_job names before after first now
-        → (IsTrue last.told → Leaves (files_cut stop) (run_lines made_job (files_named names before)) first.written now.written) → first.faults ≤ now.faults → now.faults ≤ last.faults → Delivered (stop_line stop []) now last
-        → LinesLeft (files_status stop) (run_lines made_job (made_files seed count)) first last
+        → (IsTrue last.told → Leaves (files_cut stop) (run_lines made_job (files_named names before)) first.written now.written) → first.faults ≤ now.faults → now.faults ≤ last.faults → Delivered (stop_line 2 stop []) now last
+        → LinesLeft (files_status 2 stop) (run_lines made_job (made_files seed count)) first last
     made_stopped (Opening (Fault stream)) first now last cause left le more line = absurd (quiet (slice_index_or names stream []) cause.rose)
     made_stopped (Opening OpeningMemory) first now last cause left le more line = λ t. inl (
       now.written,
@@ -139,6 +139,10 @@ module _ (seed count : ℕ) (few : IsMakeable seed count) where
     made_stopped (Run (RunFault stream)) first now last cause left le more line = absurd (quiet (slice_index_or names stream []) cause.rose)
     made_stopped (Run (TooLarge stream)) first now last cause left le more line = absurd (never_large stream cause.there (cause.bytes (all_told (slice_index_or names stream []))))
     made_stopped (Run (RunLimit node)) first now last cause left le more line = absurd (beyond_named node (cause told))
+    made_stopped (Run (RunRefused line)) first now last cause left le more written = absurd (let e : None ≡ Some line = cause.1 told in cc e)
+    made_stopped (Run (CutRead stream)) first now last cause left le more written = absurd (quiet (slice_index_or names stream []) cause.1.rose)
+    made_stopped (Run (CutLarge stream)) first now last cause left le more written = absurd (never_large stream cause.1.there (cause.1.bytes (all_told (slice_index_or names stream []))))
+    made_stopped (Run (CutRefused line)) first now last cause left le more written = absurd (let e : None ≡ Some line = cause.2 told in cc e)
     made_stopped (Run WriteFailed) first now last cause left le more line = (
       later_rose first now last cause more,
       λ t. subst (λ (bytes : List ℕ). FrontOf (flat (run_lines made_job (made_files seed count))) first.written bytes) (sym (same_after now last t line))
@@ -169,7 +173,6 @@ only_memory stop bytes is refused = go stop (subst (BytesRefused stop (Some 2)) 
     read plan e = let same : Ok made_plan ≡ Ok plan = sym made_plan_read ∙ e in cc same
 
     go : (stop : PlanStop) → BytesRefused stop (Some 2) plan_text → IsMemory stop
-    go NoPlan b = absurd b
     go (PlanFile stop) b = absurd b
     go (Refused fault) b = absurd (let e : Ok made_plan ≡ Err fault = sym made_plan_read ∙ b in cc e)
     go (OtherCount want got) b = let u = subst (RefusesPlan (FileCount want got) (Some 2)) (sym (read b.0 b.1)) b.2 in absurd (u.0 made_plan_fits.streams)
@@ -187,11 +190,11 @@ made_runs seed count few planned =
       report = report;
       handed_out = refl;
       written = refl;
-      answer = outputs_answer made_job files planned report;
-      punctuations = outputs_puncts made_job files planned report;
+      answer = outputs_answer made_job files planned refl report;
+      punctuations = outputs_puncts made_job files planned refl report;
       lawful = outputs_lawful made_job files planned;
       tallies = refl;
-      exact = made_total_is_exact seed count few (outputs_of made_job files) (outputs_answer made_job files planned report);
+      exact = made_total_is_exact seed count few (outputs_of made_job files) (outputs_answer made_job files planned refl report);
     }
 
 -- ---- the call
@@ -206,6 +209,7 @@ IsNoEnd Usage = Unit {0}
 IsNoEnd (PlanRefused line why) = Unit {0}
 IsNoEnd (FileCount want got) = Unit {0}
 IsNoEnd (Unsafe node risk) = Unit {0}
+IsNoEnd (ScriptRefused line) = Unit {0}
 IsNoEnd (OpenFault n) = Unit {0}
 IsNoEnd (ReadFault n) = Unit {0}
 IsNoEnd WriteFault = ⊥
@@ -218,6 +222,7 @@ no_end Usage lines first after left never = left
 no_end (PlanRefused line why) lines first after left never = left
 no_end (FileCount want got) lines first after left never = left
 no_end (Unsafe node risk) lines first after left never = left
+no_end (ScriptRefused line) lines first after left never = left
 no_end (OpenFault n) lines first after left never = left
 no_end (ReadFault n) lines first after left never = left
 no_end WriteFault lines first after left never = never
@@ -230,6 +235,7 @@ comes Usage lines first after left = absurd left
 comes (PlanRefused line why) lines first after left = absurd left
 comes (FileCount want got) lines first after left = absurd left
 comes (Unsafe node risk) lines first after left = absurd left
+comes (ScriptRefused line) lines first after left = absurd left
 comes (OpenFault n) lines first after left = absurd left
 comes (ReadFault n) lines first after left = absurd left
 comes WriteFault lines first after left = inr (inr refl)
@@ -248,16 +254,9 @@ module _ (call : Call) (seed count : ℕ) (ready : IsMakeReady seed count call) 
 
   -- a made input is never refused
   make_never_refused : (status other : Status) → LinesLeft status (made_lines seed count) first after → status ≡ other → IsOfPlan other → ⊥
-  make_never_refused status Done left is of = of
-  make_never_refused status Usage left is of = of
-  make_never_refused status (PlanRefused line why) left is of = make_never status (PlanRefused line why) left is tt
-  make_never_refused status (FileCount want got) left is of = make_never status (FileCount want got) left is tt
-  make_never_refused status (Unsafe node risk) left is of = make_never status (Unsafe node risk) left is tt
-  make_never_refused status (OpenFault n) left is of = of
-  make_never_refused status (ReadFault n) left is of = of
-  make_never_refused status WriteFault left is of = of
-  make_never_refused status NoMemory left is of = of
-  make_never_refused status (Limit what) left is of = make_never status (Limit what) left is tt
+  make_never_refused status other left is of =
+      of_plan (λ (o : Status). status ≡ o → ⊥) (λ line why same. make_never status (PlanRefused line why) left same tt) (λ want got same. make_never status (FileCount want got) left same tt)
+      (λ node risk same. make_never status (Unsafe node risk) left same tt) (λ same. make_never status (Limit Plan) left same tt) other of is
 
   ended_made : (status : Status) (new : FolderState) → LinesLeft status (made_lines seed count) first after → OpensFirst 1 call.names call.folder new → StayOutside (take 1 call.names) call.folder new → Ends (ending_of call status new first after)
   ended_made status new left opened stay = (
@@ -267,6 +266,7 @@ module _ (call : Call) (seed count : ℕ) (ready : IsMakeReady seed count call) 
       opened_first = subst (λ (ns : List (List ℕ)). OpensFirst 0 ns call.folder new) (sym ready.named) (subst (λ (ns : List (List ℕ)). OpensFirst 1 ns call.folder new) ready.named opened);
       others_stay = subst (λ (ns : List (List ℕ)). StayOutside (take 0 ns) call.folder new) (sym ready.named) (subst (λ (ns : List (List ℕ)). StayOutside (take 1 ns) call.folder new) ready.named stay);
       built = λ past. absurd past;
+      script = tt;
       left = (seed, count, ready.task, ready.named, left);
     },
   )
@@ -276,6 +276,10 @@ module _ (call : Call) (seed count : ℕ) (ready : IsMakeReady seed count call) 
 
   make_fits : IsFit call.task call
   make_fits = subst (λ t. IsFit t call) (sym ready.task) tt
+
+  -- no script is played
+  make_plays : IsPlayable call
+  make_plays = subst (λ (script : Option (List ℕ)). CanPlay script call) (sym ready.bare) tt
 
   make_write_fits : (status : Status) → LinesLeft status (made_lines seed count) first after → status ≡ WriteFault → WriteFails call first after
   make_write_fits status left is = let w = subst (λ (s : Status). LinesLeft s (made_lines seed count) first after) is left in (w.0, make_fits)
@@ -313,7 +317,7 @@ module _ (call : Call) (seed count : ℕ) (ready : IsMakeReady seed count call) 
         never_retracted = λ writes. absurd (subst WritesResults ready.task writes);
         whole_lines = λ runs. absurd (make_never_runs runs);
         handed_on = (handed, all_handed);
-        cause_of_done = λ _. make_fits;
+        cause_of_done = λ _. (make_fits, make_plays);
         cause_of_usage = λ is. absurd (never Usage is tt);
         usage = λ none. absurd (false≢true (sym makes_something ∙ none));
         cause_of_plan_limit = λ is. absurd (never (Limit Plan) is tt);
@@ -321,6 +325,9 @@ module _ (call : Call) (seed count : ℕ) (ready : IsMakeReady seed count call) 
         cause_of_file_count = λ want got is. absurd (never (FileCount want got) is tt);
         cause_of_unsafe = λ node risk is. absurd (never (Unsafe node risk) is tt);
         refused = answers_make status;
+        cause_of_script_limit = λ is. absurd (never (Limit Script) is tt);
+        cause_of_script_refused = λ line is. absurd (never (ScriptRefused line) is tt);
+        script_refused = λ built. absurd (make_never_runs built.form);
         cause_of_open_fault = λ n is. absurd (never (OpenFault n) is tt);
         cause_of_read_fault = λ n is. absurd (never (ReadFault n) is tt);
         cause_of_write_fault = λ is. make_write_fits status left is;
@@ -329,6 +336,8 @@ module _ (call : Call) (seed count : ℕ) (ready : IsMakeReady seed count call) 
         completes = completes_by status call new first after (record {
           usage = λ is. absurd (never Usage is tt);
           refused = λ other is of. absurd (make_never_refused status other left is of);
+          script_limit = λ is. absurd (never (Limit Script) is tt);
+          line_refused = λ line is. absurd (never (ScriptRefused line) is tt);
           open_fault = λ n is. absurd (never (OpenFault n) is tt);
           read_fault = λ n is. absurd (never (ReadFault n) is tt);
           write_fault = λ is. make_write_fits status left is;

@@ -13,13 +13,15 @@ use Rattle.pj_run.specs.Stops.{files_status, stop_line}
 use Rattle.pj_run.specs.Whole.{LeavesWhole, WroteLines}
 use Rattle.pj_run.specs.declared.stops.FilesStop.{FilesStop}
 use Rattle.pj_run.specs.declared.stops.FilesStop.TheVariants.{Opening, Run}
-use Rattle.pj_run.specs.declared.stops.RunStop.TheVariants.{ReadFault as RunFault, TooLarge, Limit as RunLimit, WriteFailed, NoMemory as RunMemory, Cut as RunCut}
+use Rattle.pj_run.specs.declared.stops.RunStop.TheVariants.{ReadFault as RunFault, TooLarge, Limit as RunLimit, Refused as RunRefused, WriteFailed, NoMemory as RunMemory, Cut as RunCut, CutRead, CutLarge, CutRefused}
 use Rattle.pj_run.proofs.WholeLaws.{none_wrote}
 use Rattle.pj_alone.specs.declared.stops.FileStop.TheVariants.{OpenFault as NotOpened, ReadFault as NotRead, TooLong, NoMemory as FileMemory}
 use Rattle.pj_alone.specs.declared.stops.PlanStop.{PlanStop}
-use Rattle.pj_alone.specs.declared.stops.PlanStop.TheVariants.{Usage as NoPlan, File as PlanFile, Refused, FileCount as OtherCount, Unsafe as Stuck, NoMemory as PlanMemory}
+use Rattle.pj_alone.specs.declared.stops.PlanStop.TheVariants.{File as PlanFile, Refused, FileCount as OtherCount, Unsafe as Stuck, NoMemory as PlanMemory}
+use Rattle.pj_alone.specs.declared.stops.StepsStop.{StepsStop}
+use Rattle.pj_alone.specs.declared.stops.StepsStop.TheVariants.{File as ScriptFile, Refused as LineRefused, NoMemory as StepsMemory}
 use Rattle.pj_alone.specs.Endings.{MemoryLeaves}
-use Rattle.pj_alone.specs.Stops.{plan_status, refusal_text}
+use Rattle.pj_alone.specs.Stops.{plan_status, refusal_text, steps_status}
 
 -- whole lines, and then the status' line
 then_line : (first now after : SinkState) → first.faults ≤ now.faults → (IsTrue after.told → WroteLines first.written now.written) → Delivered (status_line [] NoMemory) now after → MemoryLeaves first after
@@ -29,21 +31,24 @@ then_line first now after le wrote line told = elim (line told) [
 ]
 
 -- a run that stopped
-pub stopped_memory : (stop : FilesStop) (job : Job) (names : List (List ℕ)) (before new : FolderState) (name : List ℕ) (first now after : SinkState) → FilesCause stop job names before new first now → (IsTrue after.told → LeavesWhole (files_cut stop) first.written now.written)
-    → first.faults ≤ now.faults → now.faults ≤ after.faults → Delivered (stop_line stop name) now after → files_status stop ≡ NoMemory → MemoryLeaves first after
-stopped_memory (Opening (Fault stream)) job names before new name first now after cause leaves le more line is = absurd (cc)
-stopped_memory (Opening OpeningMemory) job names before new name first now after cause leaves le more line is = then_line first now after le leaves line
-stopped_memory (Run (RunFault stream)) job names before new name first now after cause leaves le more line is = absurd (cc)
-stopped_memory (Run (TooLarge stream)) job names before new name first now after cause leaves le more line is = absurd (cc)
-stopped_memory (Run (RunLimit node)) job names before new name first now after cause leaves le more line is = absurd (cc)
-stopped_memory (Run WriteFailed) job names before new name first now after cause leaves le more line is = absurd (cc)
-stopped_memory (Run RunMemory) job names before new name first now after cause leaves le more line is = then_line first now after le leaves line
-stopped_memory (Run (RunCut (CoreLimit node))) job names before new name first now after cause leaves le more line is = absurd (cc)
-stopped_memory (Run (RunCut CoreMemory)) job names before new name first now after cause leaves le more line is = λ told. let rose = cause.0 in inr (omega (arith, rose, more))
+pub stopped_memory : (operand : ℕ) (stop : FilesStop) (job : Job) (names : List (List ℕ)) (before new : FolderState) (name : List ℕ) (first now after : SinkState) → FilesCause stop job names before new first now → (IsTrue after.told → LeavesWhole (files_cut stop) first.written now.written)
+    → first.faults ≤ now.faults → now.faults ≤ after.faults → Delivered (stop_line operand stop name) now after → files_status operand stop ≡ NoMemory → MemoryLeaves first after
+stopped_memory operand (Opening (Fault stream)) job names before new name first now after cause leaves le more line is = absurd (cc)
+stopped_memory operand (Opening OpeningMemory) job names before new name first now after cause leaves le more line is = then_line first now after le leaves line
+stopped_memory operand (Run (RunFault stream)) job names before new name first now after cause leaves le more line is = absurd (cc)
+stopped_memory operand (Run (TooLarge stream)) job names before new name first now after cause leaves le more line is = absurd (cc)
+stopped_memory operand (Run (RunLimit node)) job names before new name first now after cause leaves le more line is = absurd (cc)
+stopped_memory operand (Run (RunRefused line)) job names before new name first now after cause leaves le more written is = absurd (cc)
+stopped_memory operand (Run (CutRead stream)) job names before new name first now after cause leaves le more written is = absurd (cc)
+stopped_memory operand (Run (CutLarge stream)) job names before new name first now after cause leaves le more written is = absurd (cc)
+stopped_memory operand (Run (CutRefused line)) job names before new name first now after cause leaves le more written is = absurd (cc)
+stopped_memory operand (Run WriteFailed) job names before new name first now after cause leaves le more line is = absurd (cc)
+stopped_memory operand (Run RunMemory) job names before new name first now after cause leaves le more line is = then_line first now after le leaves line
+stopped_memory operand (Run (RunCut (CoreLimit node))) job names before new name first now after cause leaves le more line is = absurd (cc)
+stopped_memory operand (Run (RunCut CoreMemory)) job names before new name first now after cause leaves le more line is = λ told. let rose = cause.0 in inr (omega (arith, rose, more))
 
 -- a call that had no plan to run
 pub early_memory : (stop : PlanStop) (old new : SinkState) → Delivered (refusal_text stop) old new → plan_status stop ≡ NoMemory → MemoryLeaves old new
-early_memory NoPlan old new line is = absurd (cc)
 early_memory (PlanFile NotOpened) old new line is = absurd (cc)
 early_memory (PlanFile NotRead) old new line is = absurd (cc)
 early_memory (PlanFile TooLong) old new line is = absurd (cc)
@@ -52,3 +57,12 @@ early_memory (Refused fault) old new line is = absurd (cc)
 early_memory (OtherCount want got) old new line is = absurd (cc)
 early_memory (Stuck found) old new line is = absurd (cc)
 early_memory PlanMemory old new line is = then_line old old new (omega arith) (λ told. none_wrote old.written) line
+
+-- a call that had no script to play
+pub steps_memory : (stop : StepsStop) (old new : SinkState) → Delivered (status_line [] (steps_status stop)) old new → steps_status stop ≡ NoMemory → MemoryLeaves old new
+steps_memory (ScriptFile NotOpened) old new line is = absurd (cc)
+steps_memory (ScriptFile NotRead) old new line is = absurd (cc)
+steps_memory (ScriptFile TooLong) old new line is = absurd (cc)
+steps_memory (ScriptFile FileMemory) old new line is = then_line old old new (omega arith) (λ told. none_wrote old.written) line
+steps_memory (LineRefused at) old new line is = absurd (cc)
+steps_memory StepsMemory old new line is = then_line old old new (omega arith) (λ told. none_wrote old.written) line

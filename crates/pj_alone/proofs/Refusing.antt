@@ -16,7 +16,7 @@ use Rattle.pj_core.specs.Calls.{IsFresh}
 use Rattle.pj_alone.specs.declared.stops.FileStop.{FileStop}
 use Rattle.pj_alone.specs.declared.stops.FileStop.TheVariants.{OpenFault as NotOpened, ReadFault as NotRead, TooLong, NoMemory as FileMemory}
 use Rattle.pj_alone.specs.declared.stops.PlanStop.{PlanStop}
-use Rattle.pj_alone.specs.declared.stops.PlanStop.TheVariants.{Usage as NoPlan, File as PlanFile, Refused, FileCount as OtherCount, Unsafe as Stuck, NoMemory as PlanMemory}
+use Rattle.pj_alone.specs.declared.stops.PlanStop.TheVariants.{File as PlanFile, Refused, FileCount as OtherCount, Unsafe as Stuck, NoMemory as PlanMemory}
 use Rattle.pj_feed.specs.Opened.{OpensFirst, StayOutside}
 use Rattle.pj_feed.proofs.Outside.{stay_elsewhere}
 use Rattle.pj_run.specs.PlanNames.{HasShortNames}
@@ -64,7 +64,6 @@ read_as bytes plan e = go (plan_read bytes) refl e
     go (Err fault) is q = absurd (cc)
 
 pub unfit_bytes : (stop : PlanStop) (files : Option ℕ) (bytes : List ℕ) (plan : Outline) → plan_read bytes ≡ Ok plan → PlanUnfit stop files plan → BytesRefused stop files bytes
-unfit_bytes NoPlan files bytes plan read u = absurd u
 unfit_bytes (PlanFile stop) files bytes plan read u = absurd u
 unfit_bytes (Refused fault) files bytes plan read u = absurd u
 unfit_bytes (OtherCount want got) files bytes plan read u = (plan, read, u)
@@ -85,7 +84,6 @@ module _ (files : Option ℕ) (name bytes : List ℕ) (old new : FolderState) (i
   told_so result read told = subst (λ (bs : List ℕ). (length bs ≤ 1048576) × (plan_read bs ≡ result)) (is told) (few, read)
 
   pub bytes_cause : (stop : PlanStop) → BytesRefused stop files bytes → HasLines stop → PlanCause stop files name old new
-  bytes_cause NoPlan b lines = absurd b
   bytes_cause (PlanFile stop) b lines = absurd b
   bytes_cause (Refused fault) b lines = (opened, told_so (Err fault) b)
   bytes_cause (OtherCount want got) b lines = (opened, b.0, b.2, told_so (Ok b.0) b.1)
@@ -101,7 +99,6 @@ stay_but name old new faults last = stay_elsewhere (name ∷ []) name old new (i
 module _ (files : ℕ) (name : List ℕ) (old new : FolderState) where
   -- a file in which there is no plan at all has none for so many files
   pub cause_of_run : (stop : PlanStop) → PlanCause stop None name old new → PlanCause stop (Some files) name old new
-  cause_of_run NoPlan c = c
   cause_of_run (PlanFile NotOpened) c = c
   cause_of_run (PlanFile NotRead) c = c
   cause_of_run (PlanFile TooLong) c = c
@@ -113,7 +110,6 @@ module _ (files : ℕ) (name : List ℕ) (old new : FolderState) where
 
   -- the plan that was read is not fit to be run
   pub unfit_cause : (stop : PlanStop) (plan : Outline) → OpensFirst 1 (name ∷ []) old new → (IsTrue (old.told name) → SpellsPlan (old.contents name) plan) → PlanUnfit stop (Some files) plan → HasLines stop → PlanCause stop (Some files) name old new
-  unfit_cause NoPlan plan opened read u lines = absurd u
   unfit_cause (PlanFile stop) plan opened read u lines = absurd u
   unfit_cause (Refused fault) plan opened read u lines = absurd u
   unfit_cause (OtherCount want got) plan opened read u lines = (opened, plan, u, λ told. let r = read told in (r.1, read_as (old.contents name) plan r.0))

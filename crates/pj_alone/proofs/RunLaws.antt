@@ -1,9 +1,8 @@
 -- What a run leaves written.
 use Rattle.pj_run.specs.Jobs.{Job}
 use Rattle.std.proofs.Common.{◌≡◌, ◌≤◌, ℕ, true, inl, inr, List, [], ◌∷◌, ◌++◌, length, Some, IsTrue, refl, ap, ◌∙◌, subst, append-nil, arith}
-use Rattle.std.specs.Prelude.{codes, nat_le}
+use Rattle.std.specs.Prelude.{nat_le}
 use Rattle.std.specs.List.{list_all}
-use Rattle.std.specs.Fmt.{decimal}
 use Rattle.std.proofs.lemmas.Bool.{and_parts}
 use Rattle.std.proofs.lemmas.Bool.Decides.{nat_tests}
 use Rattle.pj_io.specs.Causes.{Rose}
@@ -15,26 +14,20 @@ use Rattle.pj_report.specs.Forms.{form_lines}
 use Rattle.pj_alone.specs.Calls.{Call, job_of, stream_files}
 use Rattle.pj_plan.specs.Names.{is_name_byte}
 use Rattle.pj_run.specs.PlanNames.{is_short}
-use Rattle.pj_plan.specs.declared.fault.PlanWhy.{PlanWhy}
-use Rattle.pj_plan.specs.declared.fault.PlanWhy.TheVariants.{NotAPlan, UnknownStatement, BadShape, NameTwice, UnknownName, UnknownColumn, ColumnTwice, KindsDiffer, BadClass, BadScheme, UsedTwiceOrNever, TooMany, Output, Unreadable}
-use Rattle.pj_report.specs.declared.status.Status.TheVariants.{PlanRefused, FileCount}
-use Rattle.pj_report.specs.Report.{fault_words, status_line}
-use Rattle.pj_run.specs.Runs.{outs_of, outputs_of, report_of, run_lines}
+use Rattle.pj_run.specs.Runs.{outs_of, outputs_of, report_of, run_lines, IsEnabled}
 use Rattle.pj_report.specs.Written.{flat, Delivered, holding}
-use Rattle.pj_report.proofs.Fronts.{IsNoteLine}
-use Rattle.pj_run.proofs.Notes.{NoFeed, and_then, literal, number}
 
 -- ---- a run that is done
 
 -- all lines were written, and this holds of the outputs
 pub ran : (Holds : Job → List (List ℕ) → List Element → List (List ℕ) → Type 0) (job : Job) (call : Call) (ready : List (List ℕ)) (old new : SinkState)
-    → job_of call ≡ Some job → ready ≡ stream_files call → new.written ≡ old.written ++ flat (run_lines job ready) → Holds job ready (outputs_of job ready) (report_of job ready (outputs_of job ready))
+    → job_of call ≡ Some job → IsEnabled job ready → ready ≡ stream_files call → new.written ≡ old.written ++ flat (run_lines job ready) → Holds job ready (outputs_of job ready) (report_of job ready (outputs_of job ready))
     → (job : Job) × (outs : List Out) × (report : List (List ℕ)) × (job_of call ≡ Some job)
-    × (outs ≡ outs_of job (stream_files call)) × (new.written ≡ old.written ++ flat (form_lines job.form job.nodes outs ++ report)) × Holds job (stream_files call) (elements_out outs) report
-ran Holds job call ready old new read same written holds =
+    × IsEnabled job (stream_files call) × (outs ≡ outs_of job (stream_files call)) × (new.written ≡ old.written ++ flat (form_lines job.form job.nodes outs ++ report)) × Holds job (stream_files call) (elements_out outs) report
+ran Holds job call ready old new read enabled same written holds =
     subst (λ (fs : List (List ℕ)). (job : Job) × (outs : List Out) × (report : List (List ℕ)) × (job_of call ≡ Some job)
-    × (outs ≡ outs_of job fs) × (new.written ≡ old.written ++ flat (form_lines job.form job.nodes outs ++ report)) × Holds job fs (elements_out outs) report) same
-    (job, outs_of job ready, report_of job ready (outputs_of job ready), read, refl, written, holds)
+    × IsEnabled job fs × (outs ≡ outs_of job fs) × (new.written ≡ old.written ++ flat (form_lines job.form job.nodes outs ++ report)) × Holds job fs (elements_out outs) report) same
+    (job, outs_of job ready, report_of job ready (outputs_of job ready), read, enabled, refl, written, holds)
 
 -- ---- what was delivered
 
@@ -60,34 +53,7 @@ earlier_rose line first old new le delivered told = elim (delivered told) [
   | inr cut ↦ let rose = cut.0 in inr (omega (arith, rose, le), cut.1)
 ]
 
--- ---- notes
+-- ---- names
 
 pub name_short : (xs : List ℕ) → is_short xs ≡ true → length xs ≤ 32
 name_short xs e = let p = (and_parts (nat_le (length xs) 32) (list_all is_name_byte xs) e).0 in grind (arith, nat_tests)
-
--- the words of a plan's fault
-fault_words_no_feed : (why : PlanWhy) → NoFeed (fault_words why)
-fault_words_no_feed NotAPlan = literal (codes " P1 not a plan") refl
-fault_words_no_feed UnknownStatement = literal (codes " P2 unknown statement") refl
-fault_words_no_feed BadShape = literal (codes " P3 bad shape") refl
-fault_words_no_feed NameTwice = literal (codes " P4 name given twice") refl
-fault_words_no_feed UnknownName = literal (codes " P5 unknown name") refl
-fault_words_no_feed UnknownColumn = literal (codes " P6 unknown column") refl
-fault_words_no_feed ColumnTwice = literal (codes " P7 column name twice") refl
-fault_words_no_feed KindsDiffer = literal (codes " P8 kinds differ") refl
-fault_words_no_feed BadClass = literal (codes " P9 bad class") refl
-fault_words_no_feed BadScheme = literal (codes " P10 bad scheme") refl
-fault_words_no_feed UsedTwiceOrNever = literal (codes " P11 used twice or never") refl
-fault_words_no_feed TooMany = literal (codes " P12 too many") refl
-fault_words_no_feed Output = literal (codes " P13 output") refl
-fault_words_no_feed Unreadable = literal (codes " P14 unreadable line") refl
-
-pub plan_refused_note : (line : ℕ) (why : PlanWhy) → IsNoteLine (status_line [] (PlanRefused line why))
-plan_refused_note line why =
-    let all : NoFeed (codes "# refused plan line " ++ decimal line ++ fault_words why) = and_then (and_then (literal (codes "# refused plan line ") refl) (number line)) (fault_words_no_feed why) in
-    record { words = codes "# refused plan line " ++ decimal line ++ fault_words why; is = refl; note = refl; whole = all.it }
-
-pub file_count_note : (want got : ℕ) → IsNoteLine (status_line [] (FileCount want got))
-file_count_note want got =
-    let all : NoFeed (codes "# refused files want " ++ decimal want ++ codes " got " ++ decimal got) = and_then (and_then (and_then (literal (codes "# refused files want ") refl) (number want)) (literal (codes " got ") refl)) (number got) in
-    record { words = codes "# refused files want " ++ decimal want ++ codes " got " ++ decimal got; is = refl; note = refl; whole = all.it }

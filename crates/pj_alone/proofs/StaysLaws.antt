@@ -2,9 +2,8 @@
 use Rattle.pj_run.specs.Jobs.{Job}
 use Rattle.pj_plan.specs.declared.node.PlanNode.{PlanNode}
 use Rattle.pj_plan.specs.Nodes.{streams_in}
-use Rattle.std.proofs.Common.{◌≡◌, ◌≤◌, ◌+◌, ◌==◌, ℕ, true, false, ◌⊎◌, inl, inr, List, [], ◌∷◌, ◌++◌, length, map, Some, IsTrue, refl, ap, sym, ◌∙◌, subst, append_assoc, append-nil, arith}
+use Rattle.std.proofs.Common.{◌≡◌, ◌≤◌, ◌+◌, ◌==◌, ℕ, true, false, ◌⊎◌, inl, inr, List, [], ◌∷◌, ◌++◌, length, map, Some, IsTrue, refl, ap, sym, ◌∙◌, subst, append_assoc, append-nil, arith, Option, None}
 use Rattle.std.specs.Prelude.{codes}
-use Rattle.std.specs.Fmt.{decimal}
 use Rattle.std.specs.List.{list_any}
 use Rattle.std.proofs.lemmas.Bool.{false≢true, or_parts}
 use Rattle.std.proofs.lemmas.Bool.Decides.{eqb_tells}
@@ -15,47 +14,49 @@ use Rattle.pj_pattern.specs.Elements.{IsLawful}
 use Rattle.pj_line.specs.Lines.{HasNo}
 use Rattle.pj_element.specs.Runs.{element_line}
 use Rattle.pj_line.proofs.Feeds.{has_no_both}
-use Rattle.pj_element.proofs.Feeds.{decimal_no_feed}
 use Rattle.pj_plan.specs.Canonical.{node_name}
 use Rattle.pj_judge.specs.Judgments.{IsNote}
 use Rattle.pj_report.specs.declared.status.Status.{Status}
 use Rattle.pj_report.specs.declared.status.LimitOf.{LimitOf}
-use Rattle.pj_report.specs.declared.status.LimitOf.TheVariants.{Plan, Node, File}
-use Rattle.pj_report.specs.declared.status.Status.TheVariants.{Done, Usage, OpenFault, ReadFault, PlanRefused, FileCount, Unsafe, WriteFault, NoMemory, Limit}
+use Rattle.pj_report.specs.declared.status.LimitOf.TheVariants.{Plan, Script, Node, File}
+use Rattle.pj_report.specs.declared.status.Status.TheVariants.{Done, Usage, OpenFault, ReadFault, PlanRefused, FileCount, Unsafe, ScriptRefused, WriteFault, NoMemory, Limit}
 use Rattle.pj_run.specs.declared.stops.FilesStop.{FilesStop}
 use Rattle.pj_run.specs.declared.stops.FilesStop.TheVariants.{Opening, Run}
 use Rattle.pj_feed.specs.declared.stops.OpeningStop.TheVariants.{Fault, NoMemory as OpeningMemory}
 use Rattle.pj_alone.specs.declared.stops.PlanStop.{PlanStop}
-use Rattle.pj_alone.specs.declared.stops.PlanStop.TheVariants.{Usage as NoPlan, File as PlanFile, Refused, FileCount as OtherCount, Unsafe as Stuck, NoMemory as PlanMemory}
+use Rattle.pj_alone.specs.declared.stops.PlanStop.TheVariants.{File as PlanFile, Refused, FileCount as OtherCount, Unsafe as Stuck, NoMemory as PlanMemory}
 use Rattle.pj_alone.specs.declared.stops.FileStop.TheVariants.{OpenFault as NotOpened, ReadFault as NotRead, TooLong, NoMemory as FileMemory}
-use Rattle.pj_run.specs.declared.stops.RunStop.TheVariants.{ReadFault as RunFault, TooLarge, Limit as RunLimit, WriteFailed, NoMemory as RunMemory, Cut as RunCut}
+use Rattle.pj_run.specs.declared.stops.RunStop.TheVariants.{ReadFault as RunFault, TooLarge, Limit as RunLimit, Refused as RunRefused, WriteFailed, NoMemory as RunMemory, Cut as RunCut, CutRead, CutLarge, CutRefused}
 use Rattle.pj_alone.specs.Calls.{Call, job_of, stream_files}
 use Rattle.pj_run.specs.PlanNames.{HasShortNames, are_short}
 use Rattle.pj_report.specs.Report.{status_line}
 use Rattle.pj_report.specs.declared.writer.Form.{Form}
 use Rattle.pj_report.specs.declared.writer.Form.TheVariants.{AsTheyCome, Sorted, Summed}
-use Rattle.pj_report.specs.Forms.{form_lines, in_form}
+use Rattle.pj_report.specs.Forms.{form_lines, in_form, shown}
 use Rattle.pj_report.specs.Results.{out_lines}
 use Rattle.pj_events.specs.declared.events.Out.{Out}
 use Rattle.pj_events.specs.declared.events.Out.TheVariants.{Tuple as RowOut, Punct as PunctOut, Purged}
 use Rattle.pj_events.specs.Outcomes.{elements_out}
 use Rattle.pj_pattern.specs.declared.element.Element.TheVariants.{Tuple, Punct}
-use Rattle.pj_run.specs.Runs.{outs_of, outputs_of, report_of, run_lines}
+use Rattle.pj_run.specs.Runs.{due_lines, due_where, outs_of, outputs_of, refused_line, report_of, run_lines}
 use Rattle.pj_alone.specs.Refusals.{HasLines}
-use Rattle.pj_alone.specs.Stops.{refusal_text}
+use Rattle.pj_alone.specs.declared.stops.StepsStop.{StepsStop}
+use Rattle.pj_alone.specs.declared.stops.StepsStop.TheVariants.{File as ScriptFile, Refused as LineRefused, NoMemory as StepsMemory}
+use Rattle.pj_alone.specs.Stops.{refusal_text, steps_status}
 use Rattle.pj_run.specs.Stops.{files_status, stop_line}
 use Rattle.pj_alone.specs.Endings.{limit_name, stop_name}
-use Rattle.pj_alone.specs.Top.{StaysRight}
+use Rattle.pj_files.specs.Staying.{StaysRight}
 use Rattle.pj_run.specs.Cuts.{files_cut}
 use Rattle.pj_report.specs.Written.{flat, FrontOf, WholeLines, Delivered, Leaves, Spells}
-use Rattle.pj_alone.proofs.FrontLaws.{stays}
+use Rattle.pj_files.proofs.Staying.{stays}
 use Rattle.pj_report.proofs.Forms.{formed_lawful, sorted_elements}
 use Rattle.pj_report.proofs.Fronts.{IsNoteLine, AreNotes, AreLinesOf, elements_are, notes_are, lines-append, FrontSpells, front_spells, FirstLines, first_lines}
 use Rattle.pj_report.proofs.LinesWritten.{flat-append}
-use Rattle.pj_run.proofs.OutputLaws.{outputs_lawful}
+use Rattle.pj_run.proofs.OutputLaws.{legal_run, outputs_lawful}
 use Rattle.pj_run.proofs.Planned.{IsPlanned}
 use Rattle.pj_run.proofs.Notes.{name_no_feed, name_plain, no_feeds, purge_note, report_notes, streams_plain}
-use Rattle.pj_alone.proofs.RunLaws.{plan_refused_note, file_count_note, name_short, same_after}
+use Rattle.pj_files.proofs.StatusNotes.{file_count_note, limit_note, no_memory_note, open_fault_note, plan_refused_note, read_fault_note, script_refused_note, usage_note}
+use Rattle.pj_alone.proofs.RunLaws.{name_short, same_after}
 use Rattle.pj_pattern.proofs.Lawful.{lawful_front}
 
 -- the plan's bytes spell this plan, whose names are plain
@@ -100,6 +101,24 @@ run_lines_are job files plain =
     (lines-append (form_lines job.form job.nodes (outs_of job files)) (report_of job files (outputs_of job files)) (written_outputs job files) [] (form_lines_are job.form job.nodes (outs_of job files) plain)
     (notes_are (report_of job files (outputs_of job files)) (report_notes job files (outputs_of job files) plain)))
 
+-- first outputs, in the order in which the run writes them, whose lines are these, with notes among them
+record DueLines (job : Job) (files lines : List (List ℕ)) : Type 0 where
+  outputs : List Element
+  more : List Element
+  all : outputs ++ more ≡ written_outputs job files
+  are : AreLinesOf lines outputs
+
+shown_are : (form : Form) (nodes : List PlanNode) (outs : List Out) → HasShortNames nodes → (first : List Element) × (more : List Element) × (first ++ more ≡ in_form form (elements_out outs)) × AreLinesOf (shown form nodes outs) first
+shown_are AsTheyCome nodes outs plain = (elements_out outs, [], append-nil (elements_out outs), out_lines_are nodes outs plain)
+shown_are Sorted nodes outs plain = ([], in_form Sorted (elements_out outs), refl, tt)
+shown_are Summed nodes outs plain = ([], in_form Summed (elements_out outs), refl, tt)
+
+due_are : (job : Job) (files : List (List ℕ)) → HasShortNames job.nodes → (refused : Option ℕ) → DueLines job files (due_where refused job files)
+due_are job files plain None = record { outputs = written_outputs job files; more = []; all = append-nil (written_outputs job files); are = run_lines_are job files plain }
+due_are job files plain (Some line) =
+    let s = shown_are job.form job.nodes (outs_of job files) plain in
+    record { outputs = s.0; more = s.1; all = s.2; are = s.3 }
+
 -- a front of the lines of first outputs, with notes among them
 front_never : (job : Job) (call : Call) (outputs more : List Element) (lines : List (List ℕ)) (front others before after : List ℕ) → IsReady job call
     → outputs ++ more ≡ written_outputs job (stream_files call) → AreLinesOf lines outputs → front ++ others ≡ flat lines → after ≡ before ++ front → NoneRetracted call before after
@@ -112,7 +131,7 @@ front_never job call outputs more lines front others before after ready all are 
       f.first,
       f.spells,
       lawful_front f.first (f.others ++ more) (subst IsLawful (sym whole) (formed_lawful job.form (outputs_of job files) (outputs_lawful job files ready.planned))),
-      or_stays job call f.first ready.read (stays job files f.first (f.others ++ more) ready.planned whole),
+      or_stays job call f.first ready.read (stays job files f.first (f.others ++ more) ready.planned (legal_run job files ready.planned) whole),
     )
 
 none_of : (first others : List Element) → first ++ others ≡ [] → first ≡ []
@@ -127,48 +146,12 @@ notes_never call lines front others before after notes is written =
 
 -- ---- the lines of the statuses
 
-usage_note : IsNoteLine (status_line [] Usage)
-usage_note = record { words = codes "# usage: run PLAN FILE.. | replay PLAN SCRIPT FILE.. | check PLAN | make SEED N"; is = refl; note = refl; whole = no_feeds (codes "# usage: run PLAN FILE.. | replay PLAN SCRIPT FILE.. | check PLAN | make SEED N") refl }
-
-open_fault_note : (n : ℕ) → IsNoteLine (status_line [] (OpenFault n))
-open_fault_note n = record {
-  words = codes "# stopped open fault operand " ++ decimal n;
-  is = refl;
-  note = refl;
-  whole = has_no_both 10 (codes "# stopped open fault operand ") (decimal n) (no_feeds (codes "# stopped open fault operand ") refl) (decimal_no_feed n);
-}
-
-no_memory_note : (name : List ℕ) → IsNoteLine (status_line name NoMemory)
-no_memory_note name = record { words = codes "# stopped no memory"; is = refl; note = refl; whole = no_feeds (codes "# stopped no memory") refl }
-
-read_fault_note : (n : ℕ) → IsNoteLine (status_line [] (ReadFault n))
-read_fault_note n = record {
-  words = codes "# stopped read fault operand " ++ decimal n;
-  is = refl;
-  note = refl;
-  whole = has_no_both 10 (codes "# stopped read fault operand ") (decimal n) (no_feeds (codes "# stopped read fault operand ") refl) (decimal_no_feed n);
-}
-
-limit_note : (what : LimitOf) (name : List ℕ) → HasNo 10 name → IsNoteLine (status_line name (Limit what))
-limit_note Plan name none = record { words = codes "# stopped limit plan"; is = refl; note = refl; whole = no_feeds (codes "# stopped limit plan") refl }
-limit_note (Node node) name none = record {
-  words = codes "# stopped limit node " ++ name;
-  is = refl;
-  note = refl;
-  whole = has_no_both 10 (codes "# stopped limit node ") name (no_feeds (codes "# stopped limit node ") refl) none;
-}
-limit_note (File stream) name none = record {
-  words = codes "# stopped limit file " ++ name;
-  is = refl;
-  note = refl;
-  whole = has_no_both 10 (codes "# stopped limit file ") name (no_feeds (codes "# stopped limit file ") refl) none;
-}
-
 name_at_no_feed : (nodes : List PlanNode) (n : ℕ) → are_short nodes ≡ true → HasNo 10 (node_name nodes n)
 name_at_no_feed nodes n plain = name_no_feed (node_name nodes n) (name_plain nodes n plain)
 
 limit_name_no_feed : (nodes : List PlanNode) (what : LimitOf) → HasShortNames nodes → HasNo 10 (limit_name nodes what)
 limit_name_no_feed nodes Plan plain = tt
+limit_name_no_feed nodes Script plain = tt
 limit_name_no_feed nodes (Node node) plain = name_at_no_feed nodes node plain
 limit_name_no_feed nodes (File stream) plain = name_at_no_feed (streams_in nodes) stream (streams_plain nodes plain)
 
@@ -201,11 +184,13 @@ stop_name_short nodes Usage plain = omega arith
 stop_name_short nodes (PlanRefused line why) plain = omega arith
 stop_name_short nodes (FileCount want got) plain = omega arith
 stop_name_short nodes (Unsafe node risk) plain = omega arith
+stop_name_short nodes (ScriptRefused line) plain = omega arith
 stop_name_short nodes (OpenFault n) plain = omega arith
 stop_name_short nodes (ReadFault n) plain = omega arith
 stop_name_short nodes WriteFault plain = omega arith
 stop_name_short nodes NoMemory plain = omega arith
 stop_name_short nodes (Limit Plan) plain = omega arith
+stop_name_short nodes (Limit Script) plain = omega arith
 stop_name_short nodes (Limit (Node node)) plain = name_at_short nodes node plain
 stop_name_short nodes (Limit (File stream)) plain = name_at_short (streams_in nodes) stream (streams_plain nodes plain)
 
@@ -238,7 +223,6 @@ early_notes call lines old new told notes delivered =
 
 -- the run never began, and the lines of the status were written
 pub never_early : (stop : PlanStop) (call : Call) (old new : SinkState) → IsTrue new.told → HasLines stop → Delivered (refusal_text stop) old new → NoneRetracted call old.written new.written
-never_early NoPlan call old new told lines delivered = early_note call (status_line [] Usage) old new told usage_note delivered
 never_early (PlanFile NotOpened) call old new told lines delivered = early_note call (status_line [] (OpenFault 1)) old new told (open_fault_note 1) delivered
 never_early (PlanFile NotRead) call old new told lines delivered = early_note call (status_line [] (ReadFault 1)) old new told (read_fault_note 1) delivered
 never_early (PlanFile TooLong) call old new told lines delivered = early_note call (status_line [] (Limit Plan)) old new told (limit_note Plan [] tt) delivered
@@ -250,13 +234,13 @@ never_early PlanMemory call old new told lines delivered = early_note call (stat
 
 -- whole first lines of the run, and then a front of the line of the status
 whole_never : (job : Job) (call : Call) (line before : List ℕ) (mid new : SinkState) → IsTrue new.told → IsReady job call → IsNoteLine line
-    → WholeLines (run_lines job (stream_files call)) before mid.written → Delivered line mid new → NoneRetracted call before new.written
+    → WholeLines (due_lines job (stream_files call)) before mid.written → Delivered line mid new → NoneRetracted call before new.written
 whole_never job call line before mid new told ready note w delivered =
     let files : List (List ℕ) = stream_files call in
-    let outputs : List Element = written_outputs job files in
+    let due : DueLines job files (due_lines job files) = due_are job files ready.names (refused_line job files) in
     let p : Part line mid.written new.written = part_of line mid new told delivered in
-    let f : FirstLines outputs w.first = first_lines w.first w.others (run_lines job files) outputs (run_lines_are job files ready.names) w.all in
-    front_never job call f.first f.others (w.first ++ line ∷ []) (flat w.first ++ p.front) p.others before new.written ready f.all
+    let f : FirstLines due.outputs w.first = first_lines w.first w.others (due_lines job files) due.outputs due.are w.all in
+    front_never job call f.first (f.others ++ due.more) (w.first ++ line ∷ []) (flat w.first ++ p.front) p.others before new.written ready (sym (append_assoc f.first f.others due.more) ∙ (ap (λ (xs : List Element). xs ++ due.more) f.all ∙ due.all))
     (subst (AreLinesOf (w.first ++ line ∷ [])) (append-nil f.first) (lines-append w.first (line ∷ []) f.first [] f.are (inl (note, tt))))
     (append_assoc (flat w.first) p.front p.others
     ∙ (ap (λ (xs : List ℕ). flat w.first ++ xs) (p.all ∙ sym (append-nil line))
@@ -271,29 +255,46 @@ never_done job call before after ready written =
     front_never job call outputs [] (run_lines job files) (flat (run_lines job files)) [] before after ready (append-nil outputs) (run_lines_are job files ready.names) (append-nil (flat (run_lines job files))) written
 
 -- the output failed
-front_stopped : (job : Job) (call : Call) (before : List ℕ) (mid new : SinkState) → IsTrue new.told → IsReady job call → FrontOf (flat (run_lines job (stream_files call))) before mid.written → Delivered [] mid new
+front_stopped : (job : Job) (call : Call) (before : List ℕ) (mid new : SinkState) → IsTrue new.told → IsReady job call → FrontOf (flat (due_lines job (stream_files call))) before mid.written → Delivered [] mid new
     → NoneRetracted call before new.written
 front_stopped job call before mid new told ready left delivered =
     let files : List (List ℕ) = stream_files call in
-    let outputs : List Element = written_outputs job files in
-    front_never job call outputs [] (run_lines job files) left.front left.others before new.written ready (append-nil outputs) (run_lines_are job files ready.names) left.all (same_after mid new told delivered ∙ left.written)
+    let due : DueLines job files (due_lines job files) = due_are job files ready.names (refused_line job files) in
+    front_never job call due.outputs due.more (due_lines job files) left.front left.others before new.written ready due.all due.are left.all (same_after mid new told delivered ∙ left.written)
 
 -- the run stopped, and then the line of its status was written
-pub never_stopped : (stop : FilesStop) (job : Job) (call : Call) (name before : List ℕ) (mid new : SinkState) → IsTrue new.told → IsReady job call
-    → name ≡ stop_name job.nodes (files_status stop) → Leaves (files_cut stop) (run_lines job (stream_files call)) before mid.written → Delivered (stop_line stop name) mid new → NoneRetracted call before new.written
-never_stopped (Opening (Fault stream)) job call name before mid new told ready named left delivered =
-    whole_never job call (status_line [] (OpenFault (2 + stream))) before mid new told ready (open_fault_note (2 + stream)) left (subst (λ (x : List ℕ). Delivered (status_line x (OpenFault (2 + stream))) mid new) named delivered)
-never_stopped (Opening OpeningMemory) job call name before mid new told ready named left delivered = whole_never job call (status_line name NoMemory) before mid new told ready (no_memory_note name) left delivered
-never_stopped (Run (RunFault stream)) job call name before mid new told ready named left delivered =
-    whole_never job call (status_line [] (ReadFault (2 + stream))) before mid new told ready (read_fault_note (2 + stream)) left (subst (λ (x : List ℕ). Delivered (status_line x (ReadFault (2 + stream))) mid new) named delivered)
-never_stopped (Run (TooLarge stream)) job call name before mid new told ready named left delivered =
+pub never_stopped : (operand : ℕ) (stop : FilesStop) (job : Job) (call : Call) (name before : List ℕ) (mid new : SinkState) → IsTrue new.told → IsReady job call
+    → name ≡ stop_name job.nodes (files_status operand stop) → Leaves (files_cut stop) (due_lines job (stream_files call)) before mid.written → Delivered (stop_line operand stop name) mid new → NoneRetracted call before new.written
+never_stopped operand (Opening (Fault stream)) job call name before mid new told ready named left delivered =
+    whole_never job call (status_line [] (OpenFault (operand + stream))) before mid new told ready (open_fault_note (operand + stream)) left (subst (λ (x : List ℕ). Delivered (status_line x (OpenFault (operand + stream))) mid new) named delivered)
+never_stopped operand (Opening OpeningMemory) job call name before mid new told ready named left delivered = whole_never job call (status_line name NoMemory) before mid new told ready (no_memory_note name) left delivered
+never_stopped operand (Run (RunFault stream)) job call name before mid new told ready named left delivered =
+    whole_never job call (status_line [] (ReadFault (operand + stream))) before mid new told ready (read_fault_note (operand + stream)) left (subst (λ (x : List ℕ). Delivered (status_line x (ReadFault (operand + stream))) mid new) named delivered)
+never_stopped operand (Run (TooLarge stream)) job call name before mid new told ready named left delivered =
     let what : LimitOf = File stream in
     whole_never job call (status_line (limit_name job.nodes what) (Limit what)) before mid new told ready (limit_note what (limit_name job.nodes what) (limit_name_no_feed job.nodes what ready.names)) left
     (subst (λ (x : List ℕ). Delivered (status_line x (Limit what)) mid new) named delivered)
-never_stopped (Run (RunLimit node)) job call name before mid new told ready named left delivered =
+never_stopped operand (Run (RunLimit node)) job call name before mid new told ready named left delivered =
     let what : LimitOf = Node node in
     whole_never job call (status_line (limit_name job.nodes what) (Limit what)) before mid new told ready (limit_note what (limit_name job.nodes what) (limit_name_no_feed job.nodes what ready.names)) left
     (subst (λ (x : List ℕ). Delivered (status_line x (Limit what)) mid new) named delivered)
-never_stopped (Run WriteFailed) job call name before mid new told ready named left delivered = front_stopped job call before mid new told ready left delivered
-never_stopped (Run (RunCut stop)) job call name before mid new told ready named left delivered = front_stopped job call before mid new told ready left delivered
-never_stopped (Run RunMemory) job call name before mid new told ready named left delivered = whole_never job call (status_line name NoMemory) before mid new told ready (no_memory_note name) left delivered
+never_stopped operand (Run (RunRefused line)) job call name before mid new told ready named left delivered = whole_never job call (status_line name (ScriptRefused line)) before mid new told ready (script_refused_note name line) left delivered
+never_stopped operand (Run WriteFailed) job call name before mid new told ready named left delivered = front_stopped job call before mid new told ready left delivered
+never_stopped operand (Run (RunCut stop)) job call name before mid new told ready named left delivered = front_stopped job call before mid new told ready left delivered
+never_stopped operand (Run (CutRead stream)) job call name before mid new told ready named left delivered = front_stopped job call before mid new told ready left delivered
+never_stopped operand (Run (CutLarge stream)) job call name before mid new told ready named left delivered = front_stopped job call before mid new told ready left delivered
+never_stopped operand (Run (CutRefused line)) job call name before mid new told ready named left delivered = front_stopped job call before mid new told ready left delivered
+never_stopped operand (Run RunMemory) job call name before mid new told ready named left delivered = whole_never job call (status_line name NoMemory) before mid new told ready (no_memory_note name) left delivered
+
+-- the words asked for nothing that there is
+pub never_usage : (call : Call) (old new : SinkState) → IsTrue new.told → Delivered (status_line [] Usage) old new → NoneRetracted call old.written new.written
+never_usage call old new told delivered = early_note call (status_line [] Usage) old new told usage_note delivered
+
+-- the script was not had
+pub never_scripted : (stop : StepsStop) (call : Call) (old new : SinkState) → IsTrue new.told → Delivered (status_line [] (steps_status stop)) old new → NoneRetracted call old.written new.written
+never_scripted (ScriptFile NotOpened) call old new told delivered = early_note call (status_line [] (OpenFault 2)) old new told (open_fault_note 2) delivered
+never_scripted (ScriptFile NotRead) call old new told delivered = early_note call (status_line [] (ReadFault 2)) old new told (read_fault_note 2) delivered
+never_scripted (ScriptFile TooLong) call old new told delivered = early_note call (status_line [] (Limit Script)) old new told (limit_note Script [] tt) delivered
+never_scripted (ScriptFile FileMemory) call old new told delivered = early_note call (status_line [] NoMemory) old new told (no_memory_note []) delivered
+never_scripted (LineRefused at) call old new told delivered = early_note call (status_line [] (ScriptRefused at)) old new told (script_refused_note [] at) delivered
+never_scripted StepsMemory call old new told delivered = early_note call (status_line [] NoMemory) old new told (no_memory_note []) delivered

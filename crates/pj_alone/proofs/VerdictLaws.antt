@@ -10,12 +10,11 @@ use Rattle.pj_safety.specs.declared.risk.PlanRisk.{PlanRisk}
 use Rattle.pj_safety.specs.Safety.{IsSafePlan}
 use Rattle.pj_feed.specs.Opened.{AreReadToEnd, IsReadToEnd, OpensFirst, StayOutside}
 use Rattle.pj_report.specs.declared.status.Status.{Status}
-use Rattle.pj_report.specs.declared.status.Status.TheVariants.{Done, Usage, OpenFault, ReadFault, PlanRefused, FileCount, Unsafe, WriteFault, NoMemory, Limit}
+use Rattle.pj_report.specs.declared.status.Status.TheVariants.{Done, Usage, OpenFault, ReadFault, PlanRefused, FileCount, Unsafe, ScriptRefused, WriteFault, NoMemory, Limit}
 use Rattle.pj_report.specs.Written.{Delivered, FrontOf, HandedOn}
 use Rattle.pj_alone.specs.Calls.{checking, making, running, is_nothing, takes_plan, Call, HasReadPlan, HasToldPlan, files_asked, operand, plan_bytes}
 use Rattle.pj_alone.specs.Endings.{at_verdict, ending_of, ComesAt, VerdictLeaves}
-use Rattle.pj_alone.specs.Promises.{Ends, WritesResults}
-use Rattle.pj_alone.proofs.AllPromises.{KeepsAll}
+use Rattle.pj_alone.specs.Promises.{Ends, KeepsAll, WritesResults}
 use Rattle.pj_alone.proofs.Completing.{completes_by}
 use Rattle.pj_alone.specs.declared.calls.Prepared.{Prepared}
 use Rattle.pj_alone.specs.declared.calls.Ready.{Ready}
@@ -23,9 +22,9 @@ use Rattle.pj_alone.specs.declared.calls.Ready.TheVariants.{Run, Check}
 use Rattle.pj_alone.specs.Ready.{IsCheckReady, IsReadyFor, IsRunReady}
 use Rattle.pj_alone.specs.Refusals.{HasStreams, IsRefused, Refuses}
 use Rattle.pj_alone.specs.Stops.{verdict_status}
-use Rattle.pj_alone.specs.Top.{AnswersRefusal, IsFit, WriteFails}
-use Rattle.pj_report.specs.declared.status.LimitOf.TheVariants.{Plan, Node, File}
-use Rattle.pj_alone.proofs.EarlyLaws.{IsOfPlan, asked_by, fit_never, is_unfit, refused_alone}
+use Rattle.pj_alone.specs.Top.{AnswersRefusal, IsFit, IsPlayable, CanPlay, WriteFails}
+use Rattle.pj_report.specs.declared.status.LimitOf.TheVariants.{Plan, Script, Node, File}
+use Rattle.pj_alone.proofs.EarlyLaws.{IsOfPlan, of_plan, asked_by, fit_never, is_unfit, refused_alone}
 use Rattle.pj_alone.proofs.Refusing.{read_as}
 
 -- ---- what is ready
@@ -60,6 +59,7 @@ IsNoVerdict Usage = Unit {0}
 IsNoVerdict (PlanRefused line why) = Unit {0}
 IsNoVerdict (FileCount want got) = Unit {0}
 IsNoVerdict (Unsafe node risk) = ⊥
+IsNoVerdict (ScriptRefused line) = Unit {0}
 IsNoVerdict (OpenFault n) = Unit {0}
 IsNoVerdict (ReadFault n) = Unit {0}
 IsNoVerdict WriteFault = ⊥
@@ -72,6 +72,7 @@ no_verdict Usage print plan first after v never = v
 no_verdict (PlanRefused line why) print plan first after v never = v
 no_verdict (FileCount want got) print plan first after v never = v
 no_verdict (Unsafe node risk) print plan first after v never = never
+no_verdict (ScriptRefused line) print plan first after v never = v
 no_verdict (OpenFault n) print plan first after v never = v
 no_verdict (ReadFault n) print plan first after v never = v
 no_verdict WriteFault print plan first after v never = never
@@ -84,6 +85,7 @@ comes Usage print plan first after v = absurd v
 comes (PlanRefused line why) print plan first after v = absurd v
 comes (FileCount want got) print plan first after v = absurd v
 comes (Unsafe node risk) print plan first after v = inr refl
+comes (ScriptRefused line) print plan first after v = absurd v
 comes (OpenFault n) print plan first after v = absurd v
 comes (ReadFault n) print plan first after v = absurd v
 comes WriteFault print plan first after v = inr (inl refl)
@@ -113,6 +115,7 @@ module _ (call : Call) (print : Bool) (plan : Outline) (ready : IsCheckReady pla
       opened_first = opened;
       others_stay = stay;
       built = λ past. absurd past;
+      script = tt;
       left = (print, plan, ready.task, ready.read, v);
     },
   )
@@ -122,6 +125,10 @@ module _ (call : Call) (print : Bool) (plan : Outline) (ready : IsCheckReady pla
 
   safe_fits : IsSafePlan plan.nodes → IsFit call.task call
   safe_fits safe = subst (λ t. IsFit t call) (sym ready.task) (λ told. let read = ready.read told in (read.1, (plan, read.0, safe)))
+
+  -- no script is played
+  plays : IsPlayable call
+  plays = subst (λ (script : Option (List ℕ)). CanPlay script call) (sym ready.bare) tt
 
   done_fits : (status : Status) → VerdictLeaves status print plan first after → status ≡ Done → IsFit call.task call
   done_fits status v is = let w = subst (λ (s : Status). VerdictLeaves s print plan first after) is v in safe_fits w.0
@@ -156,6 +163,7 @@ module _ (call : Call) (print : Bool) (plan : Outline) (ready : IsCheckReady pla
   answers_verdict (PlanRefused line why) v = absurd v
   answers_verdict (FileCount want got) v = absurd v
   answers_verdict (Unsafe node risk) v = λ told status refuses. inl (refused_alone call (Unsafe node risk) status ((unsafe_refused node risk v).1 told) refuses)
+  answers_verdict (ScriptRefused line) v = absurd v
   answers_verdict (OpenFault n) v = absurd v
   answers_verdict (ReadFault n) v = absurd v
   answers_verdict WriteFault v = λ told status refuses. absurd (safe_never v.0 told status refuses)
@@ -164,18 +172,9 @@ module _ (call : Call) (print : Bool) (plan : Outline) (ready : IsCheckReady pla
 
   -- of the refusals a verdict is an unsafe plan alone
   verdict_refused : (status other : Status) → VerdictLeaves status print plan first after → status ≡ other → IsOfPlan other → IsRefused call other
-  verdict_refused status Done v is of = absurd of
-  verdict_refused status Usage v is of = absurd of
-  verdict_refused status (PlanRefused line why) v is of = absurd (verdict_never status (PlanRefused line why) v is tt)
-  verdict_refused status (FileCount want got) v is of = absurd (verdict_never status (FileCount want got) v is tt)
-  verdict_refused status (Unsafe node risk) v is of = unsafe_found status node risk v is
-  verdict_refused status (OpenFault n) v is of = absurd of
-  verdict_refused status (ReadFault n) v is of = absurd of
-  verdict_refused status WriteFault v is of = absurd of
-  verdict_refused status NoMemory v is of = absurd of
-  verdict_refused status (Limit Plan) v is of = absurd (verdict_never status (Limit Plan) v is tt)
-  verdict_refused status (Limit (Node node)) v is of = absurd of
-  verdict_refused status (Limit (File stream)) v is of = absurd of
+  verdict_refused status other v is of =
+      of_plan (λ (o : Status). status ≡ o → IsRefused call o) (λ line why same. absurd (verdict_never status (PlanRefused line why) v same tt)) (λ want got same. absurd (verdict_never status (FileCount want got) v same tt))
+      (λ node risk same. unsafe_found status node risk v same) (λ same. absurd (verdict_never status (Limit Plan) v same tt)) other of is
 
   -- all promises of a check
   pub keeps_verdict : (status : Status) (new : FolderState) → VerdictLeaves status print plan first after → OpensFirst 1 call.names call.folder new → StayOutside (take 1 call.names) call.folder new → HasReadPlan call new
@@ -194,7 +193,7 @@ module _ (call : Call) (print : Bool) (plan : Outline) (ready : IsCheckReady pla
         never_retracted = λ writes. absurd (subst WritesResults ready.task writes);
         whole_lines = λ runs. absurd (never_runs runs);
         handed_on = (handed, all_handed);
-        cause_of_done = λ is. done_fits status v is;
+        cause_of_done = λ is. (done_fits status v is, plays);
         cause_of_usage = λ is. absurd (never Usage is tt);
         usage = λ none. absurd (false≢true (sym is_something ∙ none));
         cause_of_plan_limit = λ is. absurd (never (Limit Plan) is tt);
@@ -202,6 +201,9 @@ module _ (call : Call) (print : Bool) (plan : Outline) (ready : IsCheckReady pla
         cause_of_file_count = λ want got is. absurd (never (FileCount want got) is tt);
         cause_of_unsafe = λ node risk is. unsafe_found status node risk v is;
         refused = answers_verdict status v;
+        cause_of_script_limit = λ is. absurd (never (Limit Script) is tt);
+        cause_of_script_refused = λ line is. absurd (never (ScriptRefused line) is tt);
+        script_refused = λ built. absurd (never_runs built.form);
         cause_of_open_fault = λ n is. absurd (never (OpenFault n) is tt);
         cause_of_read_fault = λ n is. absurd (never (ReadFault n) is tt);
         cause_of_write_fault = λ is. write_fits status v is;
@@ -210,6 +212,8 @@ module _ (call : Call) (print : Bool) (plan : Outline) (ready : IsCheckReady pla
         completes = completes_by status call new first after (record {
           usage = λ is. absurd (never Usage is tt);
           refused = λ other is of. verdict_refused status other v is of;
+          script_limit = λ is. absurd (never (Limit Script) is tt);
+          line_refused = λ line is. absurd (never (ScriptRefused line) is tt);
           open_fault = λ n is. absurd (never (OpenFault n) is tt);
           read_fault = λ n is. absurd (never (ReadFault n) is tt);
           write_fault = λ is. write_fits status v is;

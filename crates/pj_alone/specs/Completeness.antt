@@ -7,7 +7,7 @@ use Rattle.pj_report.specs.declared.status.Status.TheVariants.{Done, NoMemory}
 use Rattle.pj_alone.specs.Calls.{nothing, running, checking, making, Task, Call, job_of, IsTold, operand, stream_files}
 use Rattle.pj_run.specs.Jobs.{Job}
 use Rattle.pj_run.specs.Runs.{elements_to}
-use Rattle.pj_alone.specs.Top.{IsFit}
+use Rattle.pj_alone.specs.Top.{IsFit, IsPlayable}
 use Rattle.pj_algebra.specs.Answers.{IsCounted}
 
 -- no count of faults rose: not that of an operand's name, and not the sink's
@@ -31,8 +31,9 @@ RoomFor (making seed count) call = ⊤
 abbrev pub HasRoom : Call → Type 0
 HasRoom call = RoomFor call.task call
 
--- Where the call is told: a run of a safe plan of few enough bytes with a stream for each file, the check of a safe one, or a made
--- input, counts of faults that do not rise and limits that are not gone beyond give a call that is done, or want of memory
+-- Where the call is told: a run of a safe plan of few enough bytes with a stream for each file, with a script of few enough bytes each of
+-- whose lines is a step that is enabled, if there is one; the check of a safe plan; or a made input: counts of faults that do not rise and limits that
+-- are not gone beyond give a call that is done, or want of memory
 abbrev pub Completes : Status → Call → FolderState → SinkState → SinkState → Type 0
 Completes answer call after old new =
-    IsTold call → IsFit call.task call → NoneRose call after old new → HasRoom call → (answer ≡ Done) ⊎ (answer ≡ NoMemory)
+    IsTold call → IsFit call.task call → IsPlayable call → NoneRose call after old new → HasRoom call → (answer ≡ Done) ⊎ (answer ≡ NoMemory)

@@ -1,6 +1,6 @@
 -- How a call ended: how far it came, and what it left of the folder and in the sink.
 use Rattle.std.specs.List.{concat}
-use Rattle.std.specs.Prelude.{Bool, ◌++◌, ◌≡◌, ◌<◌, ◌≤◌, ◌+◌, ℕ, ◌⊎◌, ⊤, List, [], length, take, Ok, Some, IsTrue, slice_index_or}
+use Rattle.std.specs.Prelude.{Bool, ◌++◌, ◌≡◌, ◌<◌, ◌≤◌, ◌+◌, ℕ, ◌⊎◌, ⊤, List, [], length, take, Ok, Option, Some, None, IsTrue, slice_index_or}
 use Rattle.pj_plan.specs.declared.node.Outline.{Outline}
 use Rattle.pj_plan.specs.declared.node.PlanNode.{PlanNode}
 use Rattle.pj_plan.specs.Nodes.{streams_in}
@@ -15,18 +15,18 @@ use Rattle.pj_io.specs.States.{FolderState, SinkState}
 use Rattle.pj_feed.specs.Named.{IsAlone}
 use Rattle.pj_feed.specs.Opened.{OpensFirst, StayOutside}
 use Rattle.pj_report.specs.declared.status.Status.{Status}
-use Rattle.pj_report.specs.declared.status.Status.TheVariants.{Done, Usage, OpenFault, ReadFault, PlanRefused, FileCount, Unsafe, WriteFault, NoMemory, Limit}
+use Rattle.pj_report.specs.declared.status.Status.TheVariants.{Done, Usage, OpenFault, ReadFault, PlanRefused, FileCount, Unsafe, ScriptRefused, WriteFault, NoMemory, Limit}
 use Rattle.pj_report.specs.declared.status.LimitOf.{LimitOf}
-use Rattle.pj_report.specs.declared.status.LimitOf.TheVariants.{Plan, Node, File}
+use Rattle.pj_report.specs.declared.status.LimitOf.TheVariants.{Plan, Script, Node, File}
 use Rattle.pj_report.specs.Report.{status_line}
 use Rattle.pj_report.specs.Written.{flat, WholeLines, FrontOf, Delivered}
-use Rattle.pj_run.specs.Ends.{EndsBefore, EndsAtBytes, EndsAtLimit, EndsCut, ArrivedOf}
+use Rattle.pj_run.specs.Ends.{EndsBefore, EndsAtBytes, EndsAtLimit, EndsCut, EndsCutBefore, EndsCutRefused, EndsRefused, ArrivedOf}
 use Rattle.pj_run.specs.Jobs.{Job}
-use Rattle.pj_run.specs.Runs.{run_lines}
+use Rattle.pj_run.specs.Runs.{due_lines, refused_line}
 use Rattle.pj_run.specs.Whole.{WroteLines}
-use Rattle.pj_alone.specs.Calls.{checking, making, running, Call, job_of, IsTold, HasToldPlan, operand, file_names, plan_bytes, stream_files}
+use Rattle.pj_alone.specs.Calls.{checking, making, running, Call, first_file, job_of, script_fault, HasToldJob, IsTold, HasToldPlan, operand, file_names, plan_bytes, stream_files}
 use Rattle.pj_alone.specs.Made.{made_lines, Left, LinesLeft}
-use Rattle.pj_alone.specs.Plans.{SpellsPlan}
+use Rattle.pj_alone.specs.Plans.{plan_of, SpellsPlan}
 use Rattle.pj_alone.specs.Top.{IsBuilt}
 
 -- A call and the status that it answers, what the folder tells of itself behind it, and what the sink told before and tells behind
@@ -52,6 +52,8 @@ pub data Stage : Type 0 where
   at_verdict : Stage
   -- to the run over a made input
   at_made : Stage
+  -- to the script, whose file was opened behind the plan's
+  at_script : Stage
   -- to the opening of the files: so many operands' were opened, and the next one's was not
   at_opening : ℕ → Stage
   -- to the run, all files being open
@@ -65,6 +67,7 @@ opened_at at_words call = 0
 opened_at at_plan call = 1
 opened_at at_verdict call = 1
 opened_at at_made call = 0
+opened_at at_script call = 2
 opened_at (at_opening count) call = count
 opened_at in_run call = length call.names
 opened_at at_end call = length call.names
@@ -75,6 +78,7 @@ tried_at at_words call = 0
 tried_at at_plan call = 1
 tried_at at_verdict call = 1
 tried_at at_made call = 0
+tried_at at_script call = 2
 tried_at (at_opening count) call = count + 1
 tried_at in_run call = length call.names
 tried_at at_end call = length call.names
@@ -85,6 +89,7 @@ IsPastPlan at_words = ⊥
 IsPastPlan at_plan = ⊥
 IsPastPlan at_verdict = ⊥
 IsPastPlan at_made = ⊥
+IsPastPlan at_script = ⊤
 IsPastPlan (at_opening count) = 1 ≤ count
 IsPastPlan in_run = ⊤
 IsPastPlan at_end = ⊤
@@ -95,6 +100,7 @@ IsBeforeEnd at_words = ⊤
 IsBeforeEnd at_plan = ⊤
 IsBeforeEnd at_verdict = ⊤
 IsBeforeEnd at_made = ⊤
+IsBeforeEnd at_script = ⊤
 IsBeforeEnd (at_opening count) = ⊤
 IsBeforeEnd in_run = ⊤
 IsBeforeEnd at_end = ⊥
@@ -102,6 +108,7 @@ IsBeforeEnd at_end = ⊥
 -- a limit is met so far
 abbrev pub LimitComesAt : LimitOf → Stage → Type 0
 LimitComesAt Plan stage = stage ≡ at_plan
+LimitComesAt Script stage = stage ≡ at_script
 LimitComesAt (Node node) stage = stage ≡ in_run
 LimitComesAt (File stream) stage = stage ≡ in_run
 
@@ -113,7 +120,8 @@ ComesAt (PlanRefused line why) stage = stage ≡ at_plan
 ComesAt (FileCount want got) stage = stage ≡ at_plan
 ComesAt (Unsafe node risk) stage = (stage ≡ at_plan) ⊎ (stage ≡ at_verdict)
 ComesAt (OpenFault n) stage = (count : ℕ) × (count + 1 ≡ n) × (stage ≡ at_opening count)
-ComesAt (ReadFault n) stage = ((n ≡ 1) × (stage ≡ at_plan)) ⊎ ((1 < n) × (stage ≡ in_run))
+ComesAt (ScriptRefused line) stage = (stage ≡ at_script) ⊎ (stage ≡ in_run)
+ComesAt (ReadFault n) stage = ((n ≡ 1) × (stage ≡ at_plan)) ⊎ ((n ≡ 2) × (stage ≡ at_script)) ⊎ ((1 < n) × (stage ≡ in_run))
 ComesAt WriteFault stage = (stage ≡ in_run) ⊎ (stage ≡ at_verdict) ⊎ (stage ≡ at_made)
 ComesAt NoMemory stage = IsBeforeEnd stage
 ComesAt (Limit what) stage = LimitComesAt what stage
@@ -127,6 +135,7 @@ stream_name streams n = node_name streams n
 -- the name of what has a limit
 abbrev pub limit_name : List PlanNode → LimitOf → List ℕ
 limit_name nodes Plan = []
+limit_name nodes Script = []
 limit_name nodes (Node node) = node_name nodes node
 limit_name nodes (File stream) = stream_name (streams_in nodes) stream
 
@@ -137,6 +146,7 @@ stop_name nodes Usage = []
 stop_name nodes (PlanRefused line why) = []
 stop_name nodes (FileCount want got) = []
 stop_name nodes (Unsafe node risk) = []
+stop_name nodes (ScriptRefused line) = []
 stop_name nodes (OpenFault n) = []
 stop_name nodes (ReadFault n) = []
 stop_name nodes WriteFault = []
@@ -158,6 +168,7 @@ EarlyLeaves Usage call old new = Delivered (status_line [] Usage) old new
 EarlyLeaves (PlanRefused line why) call old new = Delivered (status_line [] (PlanRefused line why)) old new
 EarlyLeaves (FileCount want got) call old new = Delivered (status_line [] (FileCount want got)) old new
 EarlyLeaves (Unsafe node risk) call old new = TellsUnsafe node risk call old new
+EarlyLeaves (ScriptRefused line) call old new = Delivered (status_line [] (ScriptRefused line)) old new
 EarlyLeaves (OpenFault n) call old new = Delivered (status_line [] (OpenFault n)) old new
 EarlyLeaves (ReadFault n) call old new = Delivered (status_line [] (ReadFault n)) old new
 EarlyLeaves WriteFault call old new = ⊥
@@ -168,41 +179,56 @@ EarlyLeaves (Limit what) call old new = Delivered (status_line [] (Limit what)) 
 -- line beyond those that were read whole was lost or made up, where no other stream's file has its name
 abbrev pub FaultLeaves : Job → Call → FolderState → ℕ → List ℕ → List ℕ → Type 0
 FaultLeaves job call after n before bytes =
-    (stream : ℕ) × (n ≡ 2 + stream) × (ends : EndsBefore job (stream_files call) stream before bytes)
+    (stream : ℕ) × (n ≡ first_file call + stream) × (ends : EndsBefore job (stream_files call) stream before bytes)
     × (IsAlone stream (file_names call) → ArrivedOf job (stream_files call) stream (after.last (operand call.names n)) ends.front)
 
 -- what a limit leaves: the lines of the outputs up to the step that goes beyond it, or up to the turn of the stream whose file is
 -- too large, at which exactly the elements of the lines had arrived that 2 ^ 40 bytes of it end
 abbrev pub LimitLeaves : Job → List (List ℕ) → LimitOf → List ℕ → List ℕ → Type 0
 LimitLeaves job files Plan before bytes = ⊥
+LimitLeaves job files Script before bytes = ⊥
 LimitLeaves job files (Node node) before bytes = EndsAtLimit job files node before bytes
 LimitLeaves job files (File stream) before bytes = EndsAtBytes job files stream before bytes
 
--- the output failed while the lines up to the step that goes beyond a node's limit were written: a front of them was, and no more
+-- the output failed while the lines up to the step that goes beyond a node's limit, or up to the turn of a file that is too large, were
+-- written: a front of them was, and no more
 abbrev pub CutAtLimit : LimitOf → Job → Call → SinkState → SinkState → Type 0
 CutAtLimit Plan job call old new = ⊥
-CutAtLimit (File stream) job call old new = ⊥
+CutAtLimit Script job call old new = ⊥
+CutAtLimit (File stream) job call old new = EndsCutBefore job (stream_files call) stream old.written new.written × Rose old.faults new.faults
 CutAtLimit (Node node) job call old new = EndsCut job (stream_files call) node old.written new.written × Rose old.faults new.faults
+
+-- it failed while the lines up to the turn of this operand's stream were written, of which a read failed
+abbrev pub CutAtFault : ℕ → Job → Call → SinkState → SinkState → Type 0
+CutAtFault n job call old new =
+    (stream : ℕ) × (n ≡ first_file call + stream) × EndsCutBefore job (stream_files call) stream old.written new.written × Rose old.faults new.faults
+
+-- it failed while the lines up to a step were written that is not enabled
+abbrev pub CutAtStep : Job → Call → SinkState → SinkState → Type 0
+CutAtStep job call old new = EndsCutRefused job (stream_files call) old.written new.written × Rose old.faults new.faults
 
 -- it failed once memory had been wanting: a front of the lines of the whole run was written, and no more
 abbrev pub CutRun : Job → Call → SinkState → SinkState → Type 0
-CutRun job call old new = FrontOf (flat (run_lines job (stream_files call))) old.written new.written × Rose old.faults new.faults
+CutRun job call old new = FrontOf (flat (due_lines job (stream_files call))) old.written new.written × Rose old.faults new.faults
 
--- What a run that stopped leaves. Where a write failed: a front of the bytes of the whole run; where memory ran out: whole first
--- lines of the run; where a read failed or a limit was met: exactly the lines of the outputs until then. Behind such lines stands the
--- status' line; where the output failed once the run had stopped, a front of them was written
+-- What a run that stopped leaves. Where a write failed: a front of the bytes of the lines that are due; where memory ran out: whole first
+-- lines of the run; where a read failed, a limit was met or a step of the script is not enabled: exactly the lines of the outputs until
+-- then. Behind such lines stands the status' line; where the output failed once the run had stopped, a front of them was written
 abbrev pub StopLeaves : Status → Job → Call → FolderState → SinkState → SinkState → Type 0
 StopLeaves Done job call after old new = ⊥
 StopLeaves Usage job call after old new = ⊥
 StopLeaves (PlanRefused line why) job call after old new = ⊥
 StopLeaves (FileCount want got) job call after old new = ⊥
 StopLeaves (Unsafe node risk) job call after old new = ⊥
+StopLeaves (ScriptRefused line) job call after old new =
+    (refused_line job (stream_files call) ≡ Some line)
+    × (((bytes : List ℕ) × EndsRefused job (stream_files call) old.written bytes × Left bytes (status_line [] (ScriptRefused line)) old new) ⊎ CutAtStep job call old new)
 StopLeaves (OpenFault n) job call after old new = ⊥
 StopLeaves (ReadFault n) job call after old new =
-    (bytes : List ℕ) × FaultLeaves job call after n old.written bytes × Left bytes (status_line [] (ReadFault n)) old new
-StopLeaves WriteFault job call after old new = FrontOf (flat (run_lines job (stream_files call))) old.written new.written
+    ((bytes : List ℕ) × FaultLeaves job call after n old.written bytes × Left bytes (status_line [] (ReadFault n)) old new) ⊎ CutAtFault n job call old new
+StopLeaves WriteFault job call after old new = FrontOf (flat (due_lines job (stream_files call))) old.written new.written
 StopLeaves NoMemory job call after old new =
-    ((bytes : List ℕ) × WholeLines (run_lines job (stream_files call)) old.written bytes × Left bytes (status_line [] NoMemory) old new) ⊎ CutRun job call old new
+    ((bytes : List ℕ) × WholeLines (due_lines job (stream_files call)) old.written bytes × Left bytes (status_line [] NoMemory) old new) ⊎ CutRun job call old new
 StopLeaves (Limit what) job call after old new =
     ((bytes : List ℕ) × LimitLeaves job (stream_files call) what old.written bytes × Left bytes (status_line (limit_name job.nodes what) (Limit what)) old new)
     ⊎ CutAtLimit what job call old new
@@ -215,6 +241,7 @@ VerdictLeaves Usage print plan old new = ⊥
 VerdictLeaves (PlanRefused line why) print plan old new = ⊥
 VerdictLeaves (FileCount want got) print plan old new = ⊥
 VerdictLeaves (Unsafe node risk) print plan old new = IsFirstRisk plan.nodes node risk × Delivered (concat (check_lines print plan)) old new
+VerdictLeaves (ScriptRefused line) print plan old new = ⊥
 VerdictLeaves (OpenFault n) print plan old new = ⊥
 VerdictLeaves (ReadFault n) print plan old new = ⊥
 VerdictLeaves WriteFault print plan old new =
@@ -253,17 +280,53 @@ LeavesAt at_words e = EarlyLeaves e.status e.call e.old e.new
 LeavesAt at_plan e = EarlyLeaves e.status e.call e.old e.new
 LeavesAt at_verdict e = IsChecked e
 LeavesAt at_made e = HasMade e
+LeavesAt at_script e = EarlyLeaves e.status e.call e.old e.new
 LeavesAt (at_opening count) e = EarlyLeaves e.status e.call e.old e.new × KeepsLast count e
 LeavesAt in_run e = RunLeaves e
 LeavesAt at_end e = ⊤
 
+-- ---- what is so of the script
+
+-- the call has a script
+abbrev pub NamesScript : Call → Type 0
+NamesScript call = (name : List ℕ) × (call.script ≡ Some name)
+
+-- where plan and script are told: each line of the script of this name is a step, and it is of few enough bytes; nothing is asked where
+-- there is no script
+abbrev pub AreSteps : Option (List ℕ) → Call → Type 0
+AreSteps None call = ⊤
+AreSteps (Some name) call =
+    HasToldJob call → (length (call.folder.contents name) ≤ 1048576)
+    × ((plan : Outline) × (plan_of (plan_bytes call) ≡ Some plan) × (script_fault call plan.nodes ≡ None))
+
+abbrev pub IsScriptRead : Call → Type 0
+IsScriptRead call = AreSteps call.script call
+
+-- where they are told: this is the first line of the script that is no step
+abbrev pub IsNoStepAt : Call → ℕ → Type 0
+IsNoStepAt call line = HasToldJob call → (plan : Outline) × (plan_of (plan_bytes call) ≡ Some plan) × (script_fault call plan.nodes ≡ Some line)
+
+-- A call came to a script only where it has one, and a line is refused there that is no step. It came past the script, to files or to
+-- their run, only where all lines are steps; and a read of the run that failed was of a stream's file
+abbrev pub ScriptAt : Stage → Ending → Type 0
+ScriptAt at_words e = ⊤
+ScriptAt at_plan e = ⊤
+ScriptAt at_verdict e = ⊤
+ScriptAt at_made e = ⊤
+ScriptAt at_script e = NamesScript e.call × ((line : ℕ) → e.status ≡ ScriptRefused line → IsNoStepAt e.call line)
+ScriptAt (at_opening count) e = first_file e.call ≤ count + 1 → IsScriptRead e.call
+ScriptAt in_run e = IsScriptRead e.call × ((n : ℕ) → e.status ≡ ReadFault n → first_file e.call ≤ n)
+ScriptAt at_end e = IsScriptRead e.call
+
 -- ---- the ending
 
 -- The call came so far: the files of the first operands were opened, in order and no others; of the names of operands that were not
--- tried nothing changed; it came past the plan only where there is something to run; and this is what it left
+-- tried nothing changed; it came past the plan only where there is something to run, and past the script only where its lines are
+-- steps; and this is what it left
 pub record EndsAt (stage : Stage) (e : Ending) : Type 0 where
   pub comes : ComesAt e.status stage
   pub opened_first : OpensFirst (opened_at stage e.call) e.call.names e.call.folder e.after
   pub others_stay : StayOutside (take (tried_at stage e.call) e.call.names) e.call.folder e.after
   pub built : IsPastPlan stage → IsBuilt e.call
+  pub script : ScriptAt stage e
   pub left : LeavesAt stage e

@@ -6,5 +6,6 @@ pub mod Plans
 pub mod Promises
 pub mod Ready
 pub mod Refusals
+pub mod Scripts
 pub mod Stops
 pub mod Top

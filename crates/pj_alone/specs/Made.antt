@@ -1,5 +1,5 @@
 -- What is written of a made input, and what a stop leaves of it.
-use Rattle.std.specs.Prelude.{◌≡◌, ℕ, ◌⊎◌, ⊤, codes, List, [], ◌∷◌, ◌++◌, IsTrue}
+use Rattle.std.specs.Prelude.{◌≡◌, ℕ, ◌⊎◌, ⊤, codes, List, [], ◌∷◌, ◌++◌, None, IsTrue}
 use Rattle.pj_io.specs.Causes.{Rose}
 use Rattle.pj_io.specs.States.{SinkState}
 use Rattle.pj_io.specs.Steady.{steady_folder_of}
@@ -12,7 +12,7 @@ use Rattle.pj_events.specs.Outcomes.{elements_out}
 use Rattle.pj_make.specs.Inputs.{bids_text, items_text}
 use Rattle.pj_make_laws.specs.Made.{made_plan}
 use Rattle.pj_report.specs.declared.status.Status.{Status}
-use Rattle.pj_report.specs.declared.status.Status.TheVariants.{Done, Usage, OpenFault, ReadFault, PlanRefused, FileCount, Unsafe, WriteFault, NoMemory, Limit}
+use Rattle.pj_report.specs.declared.status.Status.TheVariants.{Done, Usage, OpenFault, ReadFault, PlanRefused, FileCount, Unsafe, ScriptRefused, WriteFault, NoMemory, Limit}
 use Rattle.pj_report.specs.Report.{make_line, status_line}
 use Rattle.pj_report.specs.Written.{flat, holding, Delivered, FrontOf, WholeLines}
 use Rattle.pj_run.specs.Jobs.{Job}
@@ -20,13 +20,13 @@ use Rattle.pj_run.specs.Runs.{job_in, outs_of, run_lines, IsNewCore, IsAnswer, A
 use Rattle.pj_alone.specs.declared.calls.Prepared.{Prepared}
 use Rattle.pj_alone.specs.declared.made.MadeSource.{MadeSource}
 use Rattle.pj_alone.specs.declared.stops.PlanStop.{PlanStop}
-use Rattle.pj_alone.specs.declared.stops.PlanStop.TheVariants.{Usage as NoPlan, File as PlanFile, Refused, FileCount as OtherCount, Unsafe as Stuck, NoMemory as PlanMemory}
+use Rattle.pj_alone.specs.declared.stops.PlanStop.TheVariants.{File as PlanFile, Refused, FileCount as OtherCount, Unsafe as Stuck, NoMemory as PlanMemory}
 use Rattle.pj_alone.specs.Calls.{job_with, make_options}
 
 -- ---- what is run
 
 abbrev pub made_job : Job
-made_job = job_with make_options made_plan.nodes
+made_job = job_with make_options None made_plan.nodes
 
 abbrev pub made_files : ℕ → ℕ → List (List ℕ)
 made_files seed count = items_text count ∷ bids_text seed count ∷ []
@@ -48,7 +48,6 @@ pub record IsMadeSource (seed count : ℕ) (made : MadeSource) : Type 0 where
 
 -- memory was wanting, and nothing else is so of the plan
 abbrev pub IsMemory : PlanStop → Type 0
-IsMemory NoPlan = ⊥
 IsMemory (PlanFile stop) = ⊥
 IsMemory (Refused fault) = ⊥
 IsMemory (OtherCount want got) = ⊥
@@ -74,6 +73,7 @@ LinesLeft Usage lines old new = ⊥
 LinesLeft (PlanRefused line why) lines old new = ⊥
 LinesLeft (FileCount want got) lines old new = ⊥
 LinesLeft (Unsafe node risk) lines old new = ⊥
+LinesLeft (ScriptRefused line) lines old new = ⊥
 LinesLeft (OpenFault n) lines old new = ⊥
 LinesLeft (ReadFault n) lines old new = ⊥
 LinesLeft WriteFault lines old new = Rose old.faults new.faults × (IsTrue new.told → FrontOf (flat lines) old.written new.written)

@@ -2,8 +2,8 @@
 use Rattle.std.specs.Prelude.{◌≡◌, ℕ, true, ⊤, []}
 use Rattle.pj_feed.specs.Opened.{AreReadToEnd}
 use Rattle.pj_plan.specs.declared.fault.PlanWhy.{PlanWhy}
-use Rattle.pj_report.specs.declared.status.Status.TheVariants.{Done, Usage, OpenFault, ReadFault, PlanRefused, FileCount, Unsafe, WriteFault, NoMemory, Limit}
-use Rattle.pj_report.specs.declared.status.LimitOf.TheVariants.{Plan, Node, File}
+use Rattle.pj_report.specs.declared.status.Status.TheVariants.{Done, Usage, OpenFault, ReadFault, PlanRefused, FileCount, Unsafe, ScriptRefused, WriteFault, NoMemory, Limit}
+use Rattle.pj_report.specs.declared.status.LimitOf.TheVariants.{Plan, Script, Node, File}
 use Rattle.pj_report.specs.Written.{HandedOn}
 use Rattle.pj_run.specs.Runs.{IsAnswer, ArePunctuations, AreLawful, AreTallies}
 use Rattle.pj_safety.specs.declared.risk.PlanRisk.{PlanRisk}
@@ -12,7 +12,7 @@ use Rattle.pj_alone.specs.Completeness.{Completes}
 use Rattle.pj_alone.specs.Endings.{Ending, EndsAt, MemoryLeaves, Stage}
 use Rattle.pj_alone.specs.Made.{IsMade}
 use Rattle.pj_alone.specs.Refusals.{IsRefused}
-use Rattle.pj_alone.specs.Top.{AnswersRefusal, BeyondLimit, HasFault, IsFit, IsTooLarge, IsUnopened, NeverRetracted, OneThreadBytes, Ran, WriteFails}
+use Rattle.pj_alone.specs.Top.{AnswersRefusal, AnswersScript, BeyondLimit, HasFault, IsFit, IsLineRefused, IsPlayable, IsScriptTooLong, IsTooLarge, IsUnopened, NeverRetracted, OneThreadBytes, Ran, WriteFails}
 
 -- ---- a run that is done
 
@@ -28,7 +28,7 @@ Punctuates e = e.call.task ≡ running → e.status ≡ Done → Ran ArePunctuat
 abbrev pub StaysLawful : Ending → Type 0
 StaysLawful e = e.call.task ≡ running → e.status ≡ Done → Ran AreLawful e.call e.old e.new
 
--- the bytes are those of the run on one thread and its report
+-- the bytes are those of the run on one thread, or of the script's, and its report
 abbrev pub WritesOneThread : Ending → Type 0
 WritesOneThread e = e.call.task ≡ running → e.status ≡ Done → OneThreadBytes e.call e.old e.new
 
@@ -73,7 +73,7 @@ HandsOn e = HandedOn e.old e.new × (e.status ≡ Done → e.new.held ≡ [])
 -- ---- when each status comes
 
 abbrev pub IsRightlyDone : Ending → Type 0
-IsRightlyDone e = e.status ≡ Done → IsFit e.call.task e.call
+IsRightlyDone e = e.status ≡ Done → IsFit e.call.task e.call × IsPlayable e.call
 
 abbrev pub IsRightUsage : Ending → Type 0
 IsRightUsage e = e.status ≡ Usage → is_nothing e.call.task ≡ true
@@ -98,6 +98,16 @@ IsRightlyUnsafe e = (node : ℕ) (risk : PlanRisk) → e.status ≡ Unsafe node 
 abbrev pub AnswersRefusals : Ending → Type 0
 AnswersRefusals e = AnswersRefusal e.status e.call
 
+abbrev pub IsRightScriptLimit : Ending → Type 0
+IsRightScriptLimit e = e.status ≡ Limit Script → IsScriptTooLong e.call
+
+abbrev pub IsRightRefusal : Ending → Type 0
+IsRightRefusal e = (line : ℕ) → e.status ≡ ScriptRefused line → IsLineRefused e.call line
+
+-- a script whose bytes are refused is answered so, unless memory ran out, or the plan's file or the script's failed
+abbrev pub AnswersScripts : Ending → Type 0
+AnswersScripts e = AnswersScript e.status e.call
+
 abbrev pub IsRightOpenFault : Ending → Type 0
 IsRightOpenFault e = (n : ℕ) → e.status ≡ OpenFault n → IsUnopened e.call e.after n
 
@@ -116,3 +126,34 @@ IsRightFileLimit e = (stream : ℕ) → e.status ≡ Limit (File stream) → IsT
 -- what nothing hinders is done, or memory was wanting
 abbrev pub IsCompleted : Ending → Type 0
 IsCompleted e = Completes e.status e.call e.after e.old e.new
+
+-- all promises at once
+pub record KeepsAll (e : Ending) : Type 0 where
+  pub answer : Answers e
+  pub punctuations : Punctuates e
+  pub lawful : StaysLawful e
+  pub one_thread_bytes : WritesOneThread e
+  pub tallies : Tallies e
+  pub made : Makes e
+  pub read_to_end : ReadsToEnd e
+  pub ending : Ends e
+  pub never_retracted : RetractsNothing e
+  pub whole_lines : LeavesLines e
+  pub handed_on : HandsOn e
+  pub cause_of_done : IsRightlyDone e
+  pub cause_of_usage : IsRightUsage e
+  pub usage : AnswersUsage e
+  pub cause_of_plan_limit : IsRightPlanLimit e
+  pub cause_of_plan_refused : IsRightFault e
+  pub cause_of_file_count : IsRightCount e
+  pub cause_of_unsafe : IsRightlyUnsafe e
+  pub refused : AnswersRefusals e
+  pub cause_of_script_limit : IsRightScriptLimit e
+  pub cause_of_script_refused : IsRightRefusal e
+  pub script_refused : AnswersScripts e
+  pub cause_of_open_fault : IsRightOpenFault e
+  pub cause_of_read_fault : IsRightReadFault e
+  pub cause_of_write_fault : IsRightWriteFault e
+  pub cause_of_limit : IsRightLimit e
+  pub cause_of_file_limit : IsRightFileLimit e
+  pub completes : IsCompleted e

@@ -1,5 +1,5 @@
 -- What is ready to be done of a call once its plan was read, if it names one.
-use Rattle.std.specs.Prelude.{ℕ, ◌≡◌, Bool, [], ◌∷◌, length}
+use Rattle.std.specs.Prelude.{ℕ, ◌≡◌, Bool, [], ◌∷◌, length, None}
 use Rattle.pj_plan.specs.declared.node.Outline.{Outline}
 use Rattle.pj_plan.specs.Nodes.{streams_of}
 use Rattle.pj_safety.specs.Safety.{IsSafePlan}
@@ -25,12 +25,14 @@ pub record IsRunReady (ready : Prepared) (call : Call) : Type 0 where
 pub record IsCheckReady (plan : Outline) (print : Bool) (call : Call) : Type 0 where
   pub task : call.task ≡ checking print
   pub named : call.names ≡ operand call.names 1 ∷ []
+  pub bare : call.script ≡ None
   pub read : HasToldPlan call → SpellsPlan (plan_bytes call) plan
 
 -- an input is to be made, from a seed and of a number of items that can be; no file is asked for
 pub record IsMakeReady (seed count : ℕ) (call : Call) : Type 0 where
   pub task : call.task ≡ making seed count
   pub named : call.names ≡ []
+  pub bare : call.script ≡ None
   pub few : IsMakeable seed count
 
 abbrev pub IsReadyFor : Call → Ready → Type 0

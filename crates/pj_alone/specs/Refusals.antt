@@ -1,5 +1,5 @@
 -- What words, plan and number of files refuse, and why there is no plan to run.
-use Rattle.std.specs.Prelude.{ℕ, ◌^◌, ◌-◌, ◌<◌, ◌≤◌, ◌≡◌, ◌≢◌, ◌⊎◌, true, ⊤, min, List, [], ◌∷◌, Option, Some, None, Result, Ok, Err, IsTrue, length}
+use Rattle.std.specs.Prelude.{ℕ, ◌^◌, ◌-◌, ◌<◌, ◌≤◌, ◌≡◌, ◌≢◌, ◌⊎◌, true, ⊤, min, List, [], ◌∷◌, ◌++◌, Option, Some, None, Result, Ok, Err, IsTrue, length}
 use Rattle.pj_io.specs.Folders.{RoseAt, SameEverywhere}
 use Rattle.pj_io.specs.States.{FolderState}
 use Rattle.pj_plan.specs.declared.fault.PlanFault.{PlanFault}
@@ -7,13 +7,13 @@ use Rattle.pj_plan.specs.declared.node.Outline.{Outline}
 use Rattle.pj_plan.specs.Nodes.{streams_of}
 use Rattle.pj_plan_text.specs.PlanRead.{plan_read}
 use Rattle.pj_report.specs.declared.status.Status.{Status}
-use Rattle.pj_report.specs.declared.status.Status.TheVariants.{Done, Usage, OpenFault, ReadFault, PlanRefused, FileCount, Unsafe, WriteFault, NoMemory, Limit}
+use Rattle.pj_report.specs.declared.status.Status.TheVariants.{Done, Usage, OpenFault, ReadFault, PlanRefused, FileCount, Unsafe, ScriptRefused, WriteFault, NoMemory, Limit}
 use Rattle.pj_report.specs.declared.status.LimitOf.TheVariants.{Plan}
 use Rattle.pj_alone.specs.declared.stops.FileStop.{FileStop}
 use Rattle.pj_alone.specs.declared.stops.FileStop.TheVariants.{OpenFault, ReadFault, TooLong, NoMemory as FileMemory}
 use Rattle.pj_alone.specs.declared.stops.PlanStop.{PlanStop}
-use Rattle.pj_alone.specs.declared.stops.PlanStop.TheVariants.{Usage as NoPlan, File, Refused, FileCount as OtherCount, Unsafe as Stuck, NoMemory as PlanMemory}
-use Rattle.pj_alone.specs.Calls.{is_nothing, running, takes_plan, Call, HasToldPlan, files_asked, file_names, operand, plan_bytes}
+use Rattle.pj_alone.specs.declared.stops.PlanStop.TheVariants.{File, Refused, FileCount as OtherCount, Unsafe as Stuck, NoMemory as PlanMemory}
+use Rattle.pj_alone.specs.Calls.{behind_first, is_nothing, leading, running, takes_plan, Call, HasToldPlan, files_asked, file_names, operand, plan_bytes}
 use Rattle.pj_feed.specs.Opened.{OpensFirst}
 use Rattle.pj_safety.specs.Safety.{IsFirstRisk}
 use Rattle.pj_judge.specs.Judgments.{AreUnsafeLines, HasUnsafeLines}
@@ -39,6 +39,7 @@ RefusesPlan (Unsafe node risk) files plan = HasStreams files plan × IsFirstRisk
 RefusesPlan Done files plan = ⊥
 RefusesPlan Usage files plan = ⊥
 RefusesPlan (PlanRefused line why) files plan = ⊥
+RefusesPlan (ScriptRefused line) files plan = ⊥
 RefusesPlan (OpenFault operand) files plan = ⊥
 RefusesPlan (ReadFault operand) files plan = ⊥
 RefusesPlan WriteFault files plan = ⊥
@@ -69,7 +70,6 @@ IsRefused call status = (takes_plan call.task ≡ true) × (HasToldPlan call →
 
 -- a plan without fault is refused so, where it is to have a stream for each of so many files
 abbrev pub PlanUnfit : PlanStop → Option ℕ → Outline → Type 0
-PlanUnfit NoPlan files plan = ⊥
 PlanUnfit (File stop) files plan = ⊥
 PlanUnfit (Refused fault) files plan = ⊥
 PlanUnfit (OtherCount want got) files plan = RefusesPlan (FileCount want got) files plan
@@ -81,7 +81,6 @@ PlanUnfit PlanMemory files plan = ⊤
 -- the lines of an unsafe plan are such as spell no element
 abbrev pub HasLines : PlanStop → Type 0
 HasLines (Stuck found) = HasUnsafeLines found
-HasLines NoPlan = ⊤
 HasLines (File stop) = ⊤
 HasLines (Refused fault) = ⊤
 HasLines (OtherCount want got) = ⊤
@@ -93,7 +92,6 @@ ReadUnfit stop files bytes = (plan : Outline) × (plan_read bytes ≡ Ok plan) �
 
 -- the bytes of a plan's file, which are not too many, are refused so, where there are so many files
 abbrev pub BytesRefused : PlanStop → Option ℕ → List ℕ → Type 0
-BytesRefused NoPlan files bytes = ⊥
 BytesRefused (File stop) files bytes = ⊥
 BytesRefused (Refused fault) files bytes = plan_read bytes ≡ Err fault
 BytesRefused (OtherCount want got) files bytes = ReadUnfit (OtherCount want got) files bytes
@@ -127,7 +125,6 @@ OpenedAndUnfit stop files name old new =
 
 -- why there is no plan in the file of this name for so many files
 abbrev pub PlanCause : PlanStop → Option ℕ → List ℕ → FolderState → FolderState → Type 0
-PlanCause NoPlan files name old new = ⊥
 PlanCause (File OpenFault) files name old new = OpensFirst 0 (name ∷ []) old new × RoseAt name old.faults new.faults × SameEverywhere old.last new.last
 PlanCause (File ReadFault) files name old new = OpensFirst 1 (name ∷ []) old new × RoseAt name old.faults new.faults
 PlanCause (File TooLong) files name old new = OpensFirst 1 (name ∷ []) old new × (IsTrue (old.told name) → 1048576 < length (old.contents name))
@@ -137,24 +134,22 @@ PlanCause (OtherCount want got) files name old new = OpenedAndUnfit (OtherCount 
 PlanCause (Stuck found) files name old new = OpenedAndUnfit (Stuck found) files name old new × HasUnsafeLines found
 PlanCause PlanMemory files name old new = ⊤
 
--- a call is a run, and names the plan's file
+-- a call is a run, and names the plan's file, that of a script, if there is one, and then the streams'
 pub record IsRun (call : Call) : Type 0 where
   pub form : call.task ≡ running
-  pub named : call.names ≡ operand call.names 1 ∷ file_names call
+  pub named : call.names ≡ leading (operand call.names 1) call.script ++ file_names call
 
--- a call names a plan's file
+-- a call names a plan's file first
 pub record HasPlan (call : Call) : Type 0 where
   pub takes : takes_plan call.task ≡ true
-  pub named : call.names ≡ operand call.names 1 ∷ file_names call
+  pub named : call.names ≡ operand call.names 1 ∷ behind_first call.names
 
 -- it names a plan's file, which has no plan for it, for this cause
 abbrev pub CallUnfit : PlanStop → Call → FolderState → Type 0
 CallUnfit stop call after = HasPlan call × PlanCause stop (files_asked call) (operand call.names 1) call.folder after
 
--- why a call has no plan: what is asked for is nothing that there is, and nothing was done; it names a file with no such plan; or memory was wanting,
--- maybe before the file was opened
+-- why a call has no plan: it names a file with no such plan; or memory was wanting, maybe before the file was opened
 abbrev pub Unprepared : PlanStop → Call → FolderState → Type 0
-Unprepared NoPlan call after = (is_nothing call.task ≡ true) × (after ≡ call.folder)
 Unprepared (File stop) call after = CallUnfit (File stop) call after
 Unprepared (Refused fault) call after = CallUnfit (Refused fault) call after
 Unprepared (OtherCount want got) call after = CallUnfit (OtherCount want got) call after

@@ -1,12 +1,12 @@
 // What a request asks for: a plan, and for a run a file for each of its streams; or an input that is made.
-ghost use Rattle.std.specs.Prelude.{ℕ, ◌≡◌, ◌≤◌, ◌^◌, ◌∷◌, [], true, Option, Some, None, Ok, Err, IsTrue, IfOk, IfErr, OnOk, length, take};
+ghost use Rattle.std.specs.Prelude.{ℕ, ◌≡◌, ◌≤◌, ◌^◌, ◌∷◌, [], Option, Some, None, Ok, Err, IsTrue, IfOk, IfErr, OnOk, length, take};
 ghost use Rattle.pj_io.specs.States.{FolderState};
 ghost use Rattle.pj_io.specs.Folders.{NoneFalls, SameElsewhere};
 ghost use Rattle.pj_plan.specs.Nodes.{streams_of};
 ghost use Rattle.pj_plan_text.specs.PlanRead.{plan_read};
 ghost use Rattle.pj_safety.specs.Certificates.{AreCertificates, certificates_of};
 ghost use Rattle.pj_safety.specs.Safety.{IsSafePlan};
-ghost use Rattle.pj_alone.specs.Calls.{is_nothing, call_for, file_names, form_by, operand, plan_bytes, HasReadPlan, HasToldPlan};
+ghost use Rattle.pj_alone.specs.Calls.{call_for, file_names, form_by, operand, plan_bytes, HasReadPlan, HasToldPlan};
 ghost use Rattle.pj_feed.specs.Opened.{OpensFirst, OpensAtMost, IsReadToEnd, StayOutside};
 ghost use Rattle.pj_alone.specs.Plans.{outline_in, plan_of, IsAsked, SpellsPlan};
 ghost use Rattle.pj_alone.specs.Ready.{IsReadyFor};
@@ -51,7 +51,7 @@ pub struct Prepared {
 /// What is ready to be done.
 #[derive(Drop)]
 pub enum Ready {
-    /// A run.
+    /// A run, where a script may be played first.
     Run { ready: Prepared },
     /// The check of a plan, which is to be printed or not.
     Check { plan: Plan, print: bool },
@@ -77,7 +77,6 @@ pub fn prepare<F: Folder>(
     ensures was_opened { OnOk result (OpensFirst 1 (call_for request.now (F.state folder.old)).names (F.state folder.old) (F.state folder.new)) }
     ensures others { StayOutside (take 1 (call_for request.now (F.state folder.old)).names) (F.state folder.old) (F.state folder.new) }
     ensures cause { IfErr result (λ stop. Unprepared stop (call_for request.now (F.state folder.old)) (F.state folder.new)) }
-    ensures usage { is_nothing (call_for request.now (F.state folder.old)).task ≡ true → result ≡ Err PlanStop.Usage }
 {
     match request {
         Request::Run {
@@ -98,7 +97,22 @@ pub fn prepare<F: Folder>(
             let ready = prepare_run(alloc, plan.as_slice(), files.len(), options, folder)?;
             Ok(Ready::Run { ready })
         }
-        Request::Replay { .. } => Err(PlanStop::Usage),
+        Request::Replay {
+            plan,
+            script: _,
+            files,
+            trace,
+            limit,
+        } => {
+            let options = Options {
+                trace: *trace,
+                limit: *limit,
+                form: Form::AsTheyCome,
+                check: false,
+            };
+            let ready = prepare_run(alloc, plan.as_slice(), files.len(), options, folder)?;
+            Ok(Ready::Run { ready })
+        }
         Request::Check { plan, print } => {
             let plan = read_plan_of(alloc, plan.as_slice(), folder)?;
             Ok(Ready::Check {
@@ -119,7 +133,7 @@ pub fn files_in(request: &Request) -> &[Bytes]
 {
     match request {
         Request::Run { files, .. } => files.as_slice(),
-        Request::Replay { .. } => &[],
+        Request::Replay { files, .. } => files.as_slice(),
         Request::Check { .. } => &[],
         Request::Make { .. } => &[],
     }

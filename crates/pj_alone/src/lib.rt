@@ -1,5 +1,5 @@
-//! The call of a request on one thread: runs a plan over its files, checks it, or makes an input and runs that. It waits for no
-//! other thread.
+//! The call of a request on one thread: runs a plan over its files, where it may play a script first, checks it, or makes an input
+//! and runs that. It waits for no other thread.
 #![tactic(auto)]
 
 mod alone;
@@ -7,6 +7,8 @@ mod calls;
 mod made;
 mod plan_file;
 mod refusal;
+mod run;
+mod script;
 mod status;
 mod stops;
 mod verdict;

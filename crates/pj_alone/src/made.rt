@@ -9,10 +9,11 @@ ghost use Rattle.pj_alone.specs.Made.{made_files, made_job, made_lines, IsMadeRe
 
 use crate::calls::{Options, Prepared, spelled_ready};
 use crate::stops::PlanStop;
+use pj_files::{Ran, run_files};
 use pj_io::{Sink, SteadyFolder};
 use pj_make::make;
 use pj_report::{Form, Status, WriteStop, write_make, write_status};
-use pj_run::{run_files, write_stop};
+use pj_run::write_stop;
 use pj_value::{Bytes, List, NoMemory};
 use std::alloc::Global;
 
@@ -91,19 +92,14 @@ fn run_made<K: Sink>(alloc: Global, seed: u32, count: u32, made: MadeSource, out
         names,
         mut folder,
     } = made;
-    let Prepared { mut core, writing } = ready;
-    match run_files(
-        alloc,
-        writing,
-        &mut core,
-        names.as_slice(),
-        &mut folder,
-        out,
-    ) {
+    let Prepared { core, writing } = ready;
+    let files = names.as_slice();
+    let Ran { core: _, ended } = run_files(alloc, writing, core, &None, files, &mut folder, out);
+    match ended {
         Ok(()) => Status::Done,
         Err(stop) => {
-            write_stop(b"", stop, out);
-            stop.status()
+            write_stop(b"", 2, stop, out);
+            stop.status(2)
         }
     }
 }
@@ -155,7 +151,6 @@ fn memory_of(stop: PlanStop) -> NoMemory
     requires { IsMemory stop }
 {
     match stop {
-        PlanStop::Usage => unreachable!(),
         PlanStop::File { .. } => unreachable!(),
         PlanStop::Refused { .. } => unreachable!(),
         PlanStop::FileCount { .. } => unreachable!(),

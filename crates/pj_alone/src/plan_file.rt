@@ -1,4 +1,4 @@
-// The plan's file, which is read whole.
+// The plan's file and the script's, which are read whole.
 ghost use Rattle.std.specs.Prelude.{◌≡◌, ◌≤◌, ◌<◌, ◌∷◌, [], IsTrue, IfOk, IfErr, OnOk, Err, length};
 ghost use Rattle.pj_io.specs.Folders.{NoneFalls, SameElsewhere};
 ghost use Rattle.pj_feed.specs.Opened.{OpensFirst, OpensAtMost};
@@ -9,8 +9,8 @@ use pj_io::{Folder, OpenStop, WholeStop, read_whole};
 use pj_value::Bytes;
 use std::alloc::Global;
 
-// The most bytes of a plan's file.
-const PLAN_LIMIT: u64 = 1_048_576;
+// The most bytes of a plan's file, and of a script's.
+const MOST: u64 = 1_048_576;
 
 /// Opens the file of a name, reads it to its end and closes it.
 pub fn read_file<F: Folder>(alloc: Global, folder: &mut F, name: &[u8]) -> Result<Bytes, FileStop>
@@ -32,7 +32,7 @@ pub fn read_file<F: Folder>(alloc: Global, folder: &mut F, name: &[u8]) -> Resul
         Err(OpenStop::Failed) => return Err(FileStop::OpenFault),
         Err(OpenStop::NoMemory) => return Err(FileStop::NoMemory),
     };
-    let whole = read_whole(alloc, &mut file, PLAN_LIMIT);
+    let whole = read_whole(alloc, &mut file, MOST);
     folder.close_file(file);
     match whole {
         Ok(bytes) => Ok(bytes),

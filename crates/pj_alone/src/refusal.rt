@@ -19,7 +19,6 @@ pub fn write_refusal<K: Sink>(stop: &PlanStop, out: &mut K)
         PlanStop::Unsafe { found } => {
             let _ = write_lines(found.lines.as_slice(), out);
         }
-        PlanStop::Usage => write_status(b"", stop.status(), out),
         PlanStop::File { .. } => write_status(b"", stop.status(), out),
         PlanStop::Refused { .. } => write_status(b"", stop.status(), out),
         PlanStop::FileCount { .. } => write_status(b"", stop.status(), out),

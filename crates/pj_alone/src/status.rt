@@ -1,8 +1,8 @@
-// The status of a call that has no plan to run.
+// The status of a call that has no plan to run, or no script to play.
 ghost use Rattle.std.specs.Prelude.{◌≡◌};
-ghost use Rattle.pj_alone.specs.Stops.{file_status as status_of_file, plan_status};
+ghost use Rattle.pj_alone.specs.Stops.{file_status as status_of_file, plan_status, steps_status};
 
-use crate::stops::{FileStop, PlanStop};
+use crate::stops::{FileStop, PlanStop, StepsStop};
 use pj_report::{LimitOf, Status};
 
 impl PlanStop {
@@ -11,8 +11,7 @@ impl PlanStop {
         ensures { result ≡ plan_status self.now }
     {
         match self {
-            PlanStop::Usage => Status::Usage,
-            PlanStop::File { stop } => file_status(*stop),
+            PlanStop::File { stop } => file_status(1, LimitOf::Plan, *stop),
             PlanStop::Refused { fault } => Status::PlanRefused {
                 line: fault.line,
                 why: fault.why,
@@ -30,16 +29,27 @@ impl PlanStop {
     }
 }
 
-// The plan is operand 1.
-fn file_status(stop: FileStop) -> Status
-    ensures { result ≡ status_of_file stop }
+impl StepsStop {
+    /// How a call ends that has no script to play.
+    pub(crate) fn status(self) -> Status
+        ensures { result ≡ steps_status self }
+    {
+        match self {
+            StepsStop::File { stop } => file_status(2, LimitOf::Script, stop),
+            StepsStop::Refused { line } => Status::ScriptRefused { line },
+            StepsStop::NoMemory => Status::NoMemory,
+        }
+    }
+}
+
+// The status of a call of which the file of this operand was not read, whose bytes have a limit.
+fn file_status(operand: u32, what: LimitOf, stop: FileStop) -> Status
+    ensures { result ≡ status_of_file operand what stop }
 {
     match stop {
-        FileStop::OpenFault => Status::OpenFault { operand: 1 },
-        FileStop::ReadFault => Status::ReadFault { operand: 1 },
-        FileStop::TooLong => Status::Limit {
-            what: LimitOf::Plan,
-        },
+        FileStop::OpenFault => Status::OpenFault { operand },
+        FileStop::ReadFault => Status::ReadFault { operand },
+        FileStop::TooLong => Status::Limit { what },
         FileStop::NoMemory => Status::NoMemory,
     }
 }

@@ -5,14 +5,14 @@ use pj_judge::Unsafe;
 use pj_plan::PlanFault;
 use pj_value::NoMemory;
 
-/// Why the plan's file was not read.
+/// Why the plan's file, or the script's, was not read.
 #[derive(Clone, Copy, Debug, PartialEq, Eq)]
 pub enum FileStop {
     /// It could not be opened.
     OpenFault,
     /// It could not be read.
     ReadFault,
-    /// It has more bytes than a plan may have.
+    /// It has more bytes than a plan or a script may have, 1,048,576.
     TooLong,
     /// Memory could not be had.
     NoMemory,
@@ -21,8 +21,6 @@ pub enum FileStop {
 /// Why there is no plan to run.
 #[derive(Drop)]
 pub enum PlanStop {
-    /// What is asked for names no plan.
-    Usage,
     /// The plan's file was not read.
     File { stop: FileStop },
     /// The plan has this fault.
@@ -31,6 +29,17 @@ pub enum PlanStop {
     FileCount { want: u32, got: u32 },
     /// A node of the plan is not safe.
     Unsafe { found: Unsafe },
+    /// Memory could not be had.
+    NoMemory,
+}
+
+/// Why the steps of a script were not had.
+#[derive(Clone, Copy, Debug, PartialEq, Eq)]
+pub enum StepsStop {
+    /// The script's file was not read.
+    File { stop: FileStop },
+    /// This line of the script is no step.
+    Refused { line: u64 },
     /// Memory could not be had.
     NoMemory,
 }
@@ -52,5 +61,15 @@ impl From<NoMemory> for PlanStop {
 
     fn from(_: NoMemory) -> PlanStop {
         PlanStop::NoMemory
+    }
+}
+
+impl From<FileStop> for StepsStop {
+    ghost use Rattle.pj_alone.specs.declared.stops.StepsStop.TheVariants.{File as OfFile};
+
+    ghost from_gives = { λ stop steps. steps ≡ OfFile stop };
+
+    fn from(stop: FileStop) -> StepsStop {
+        StepsStop::File { stop }
     }
 }

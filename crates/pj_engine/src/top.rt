@@ -1,7 +1,7 @@
 // The top call.
 ghost use Rattle.std.specs.Prelude.{◌≡◌, None};
 ghost use Rattle.pj_alone.specs.Endings.{ending_of};
-ghost use Rattle.pj_alone.specs.Promises.{Answers, AnswersRefusals, Ends, HandsOn, IsCompleted, IsRightCount, IsRightFault, IsRightFileLimit, IsRightLimit, IsRightlyDone, IsRightlyUnsafe, IsRightOpenFault, IsRightPlanLimit, IsRightReadFault, IsRightUsage, IsRightWriteFault, LeavesLines, Makes, Punctuates, ReadsToEnd, RetractsNothing, StaysLawful, Tallies, WritesOneThread};
+ghost use Rattle.pj_alone.specs.Promises.{Answers, AnswersRefusals, AnswersScripts, Ends, HandsOn, IsCompleted, IsRightCount, IsRightFault, IsRightFileLimit, IsRightLimit, IsRightlyDone, IsRightlyUnsafe, IsRightOpenFault, IsRightPlanLimit, IsRightReadFault, IsRightRefusal, IsRightScriptLimit, IsRightUsage, IsRightWriteFault, LeavesLines, Makes, Punctuates, ReadsToEnd, RetractsNothing, StaysLawful, Tallies, WritesOneThread};
 ghost use Rattle.pj_engine.specs.Words.{asked_in, call_of, AsksSomething};
 
 use pj_alone::run_alone;
@@ -42,6 +42,9 @@ pub fn run_words<R: AllocGlobal, F: Folder, K: Sink>(
     ensures cause_of_file_count { IsRightCount (ending_of (call_of words.now (F.state folder.old)) result (F.state folder.new) (K.state out.old) (K.state out.new)) }
     ensures cause_of_unsafe { IsRightlyUnsafe (ending_of (call_of words.now (F.state folder.old)) result (F.state folder.new) (K.state out.old) (K.state out.new)) }
     ensures refused { AnswersRefusals (ending_of (call_of words.now (F.state folder.old)) result (F.state folder.new) (K.state out.old) (K.state out.new)) }
+    ensures cause_of_script_limit { IsRightScriptLimit (ending_of (call_of words.now (F.state folder.old)) result (F.state folder.new) (K.state out.old) (K.state out.new)) }
+    ensures cause_of_script_refused { IsRightRefusal (ending_of (call_of words.now (F.state folder.old)) result (F.state folder.new) (K.state out.old) (K.state out.new)) }
+    ensures script_refused { AnswersScripts (ending_of (call_of words.now (F.state folder.old)) result (F.state folder.new) (K.state out.old) (K.state out.new)) }
     ensures cause_of_open_fault { IsRightOpenFault (ending_of (call_of words.now (F.state folder.old)) result (F.state folder.new) (K.state out.old) (K.state out.new)) }
     ensures cause_of_read_fault { IsRightReadFault (ending_of (call_of words.now (F.state folder.old)) result (F.state folder.new) (K.state out.old) (K.state out.new)) }
     ensures cause_of_write_fault { IsRightWriteFault (ending_of (call_of words.now (F.state folder.old)) result (F.state folder.new) (K.state out.old) (K.state out.new)) }

@@ -2,12 +2,12 @@ use Rattle.std.proofs.Common.{refl, refl, sym, subst, Option}
 use Rattle.pj_words.specs.declared.request.Request.{Request}
 use Rattle.pj_alone.specs.Calls.{call_by, call_for, wanted}
 use Rattle.pj_alone.specs.Endings.{ending_of, Ending}
-use Rattle.pj_alone.specs.Promises.{Answers, AnswersRefusals, Ends, IsCompleted, IsRightCount, IsRightFault, IsRightFileLimit, IsRightLimit, IsRightlyDone, IsRightlyUnsafe, IsRightOpenFault, IsRightPlanLimit, IsRightReadFault, IsRightUsage, IsRightWriteFault, LeavesLines, Makes, Punctuates, ReadsToEnd, RetractsNothing, StaysLawful, Tallies, WritesOneThread}
-use Rattle.pj_alone.specs.declared.stops.PlanStop.TheVariants.{Usage as NoPlan, NoMemory as PlanMemory}
+use Rattle.pj_alone.specs.Promises.{Answers, AnswersRefusals, AnswersScripts, Ends, IsCompleted, IsRightCount, IsRightFault, IsRightFileLimit, IsRightLimit, IsRightlyDone, IsRightlyUnsafe, IsRightOpenFault, IsRightPlanLimit, IsRightReadFault, IsRightRefusal, IsRightScriptLimit, IsRightUsage, IsRightWriteFault, LeavesLines, Makes, Punctuates, ReadsToEnd, RetractsNothing, StaysLawful, Tallies, WritesOneThread}
+use Rattle.pj_alone.specs.declared.stops.PlanStop.TheVariants.{NoMemory as PlanMemory}
 use Rattle.pj_alone.proofs.MemoryLaws.{early_memory}
 use Rattle.pj_alone.proofs.EarlyLaws.{ended_at_words}
 use Rattle.pj_report.specs.declared.status.Status.TheVariants.{NoMemory}
-use Rattle.pj_alone.proofs.StaysLaws.{never_early}
+use Rattle.pj_alone.proofs.StaysLaws.{never_early, never_usage}
 use Rattle.pj_engine.specs.Words.{call_of}
 use Rattle.pj_engine.proofs.top.run_words.Given.{Over}
 use Rattle.pj_engine.proofs.top.run_words.Goals.{After-run_alone}
@@ -73,6 +73,15 @@ returns-in-Ok-clause-cause_of_unsafe g c = said g (goal.at.returns-in-Ok-clause-
 pub returns-in-Ok-clause-refused : goal.returns-in-Ok-clause-refused
 returns-in-Ok-clause-refused g c = said g (goal.at.returns-in-Ok-clause-refused g c).After-run_alone AnswersRefusals c.run_alone.ensures.refused
 
+pub returns-in-Ok-clause-cause_of_script_limit : goal.returns-in-Ok-clause-cause_of_script_limit
+returns-in-Ok-clause-cause_of_script_limit g c = said g (goal.at.returns-in-Ok-clause-cause_of_script_limit g c).After-run_alone IsRightScriptLimit c.run_alone.ensures.cause_of_script_limit
+
+pub returns-in-Ok-clause-cause_of_script_refused : goal.returns-in-Ok-clause-cause_of_script_refused
+returns-in-Ok-clause-cause_of_script_refused g c = said g (goal.at.returns-in-Ok-clause-cause_of_script_refused g c).After-run_alone IsRightRefusal c.run_alone.ensures.cause_of_script_refused
+
+pub returns-in-Ok-clause-script_refused : goal.returns-in-Ok-clause-script_refused
+returns-in-Ok-clause-script_refused g c = said g (goal.at.returns-in-Ok-clause-script_refused g c).After-run_alone AnswersScripts c.run_alone.ensures.script_refused
+
 pub returns-in-Ok-clause-cause_of_open_fault : goal.returns-in-Ok-clause-cause_of_open_fault
 returns-in-Ok-clause-cause_of_open_fault g c = said g (goal.at.returns-in-Ok-clause-cause_of_open_fault g c).After-run_alone IsRightOpenFault c.run_alone.ensures.cause_of_open_fault
 
@@ -95,7 +104,7 @@ returns-in-Ok-clause-completes g c = said g (goal.at.returns-in-Ok-clause-comple
 
 pub returns-in-Err-Usage-clause-never_retracted : goal.returns-in-Err-Usage-clause-never_retracted
 returns-in-Err-Usage-clause-never_retracted g c = λ _ all t.
-    never_early NoPlan (call_of c.args.words.now (g.F.Folder.state c.args.folder.now)) (g.K.Sink.state c.args.out.now) (g.K.Sink.state c.write_status.new.out) t tt c.write_status.ensures.line
+    never_usage (call_of c.args.words.now (g.F.Folder.state c.args.folder.now)) (g.K.Sink.state c.args.out.now) (g.K.Sink.state c.write_status.new.out) t c.write_status.ensures.line
 
 pub returns-in-Err-NoMemory-clause-never_retracted : goal.returns-in-Err-NoMemory-clause-never_retracted
 returns-in-Err-NoMemory-clause-never_retracted g c = λ _ all t.
