@@ -12,4 +12,6 @@ mod operators;
 #[cfg(test)]
 mod options;
 #[cfg(test)]
+mod replays;
+#[cfg(test)]
 mod runs;

@@ -607,7 +607,7 @@ fn a_stream_alone_may_have_schemes(rt: HostRuntime) -> Result<(), Fail> {
 }
 
 // The bytes with line feeds behind them, so many bytes in all.
-fn padded(alloc: Global, bytes: &[u8], size: usize) -> Result<List<u8>, NoMemory> {
+pub(crate) fn padded(alloc: Global, bytes: &[u8], size: usize) -> Result<List<u8>, NoMemory> {
     let mut long = List::copy_of(alloc, bytes)?;
     for _ in bytes.len()..size {
         long.push(b'\n')?;
