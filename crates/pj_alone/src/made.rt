@@ -11,7 +11,7 @@ use crate::calls::{Options, Prepared, spelled_ready};
 use crate::stops::PlanStop;
 use pj_files::{Ran, run_files};
 use pj_io::{Sink, SteadyFolder};
-use pj_make::make;
+use pj_make::{Made, make};
 use pj_report::{Form, Status, WriteStop, write_make, write_status};
 use pj_run::write_stop;
 use pj_value::{Bytes, List, NoMemory};
@@ -109,11 +109,11 @@ fn made_source(alloc: Global, seed: u32, count: u32) -> Result<MadeSource, NoMem
     requires { IsMakeable seed count }
     ensures { IfOk result (IsMadeSource seed count) }
 {
-    let made = make(alloc, seed, count)?;
-    let ready = made_ready(alloc, made.plan.as_slice())?;
+    let Made { plan, items, bids } = make(alloc, seed, count)?;
+    let ready = made_ready(alloc, plan.as_slice())?;
     let mut folder = SteadyFolder::new(alloc);
-    folder.add(alloc, ITEMS, made.items.as_slice(), PIECE)?;
-    folder.add(alloc, BIDS, made.bids.as_slice(), PIECE)?;
+    folder.add(alloc, ITEMS, items, PIECE)?;
+    folder.add(alloc, BIDS, bids, PIECE)?;
     let mut names = List::new(alloc);
     names.push(List::copy_of(alloc, ITEMS)?)?;
     names.push(List::copy_of(alloc, BIDS)?)?;

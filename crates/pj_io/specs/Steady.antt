@@ -1,7 +1,7 @@
 -- What the forms that never fail show.
-use Rattle.std.specs.Prelude.{ℕ, true, List}
+use Rattle.std.specs.Prelude.{ℕ, true, List, Option, Some, None}
 use Rattle.pj_io.specs.Books.{last_of, opened_in}
-use Rattle.pj_io.specs.MemoryFolders.{added_of, bytes_of}
+use Rattle.pj_io.specs.MemoryFolders.{Added, added_of, bytes_of}
 use Rattle.pj_io.specs.States.{FolderState, SourceState}
 use Rattle.pj_io.specs.declared.book.Note.{Note}
 use Rattle.pj_io.specs.declared.memory_file.MemFile.{MemFile}
@@ -19,6 +19,11 @@ steady source = record source { faults = 0 }
 pub record SteadyFolderState : Type 0 where
   pub files : List MemFile
   pub notes : List Note
+
+-- the most that a read gives of a file, 1 where there is none
+abbrev pub cut_of : Option Added → ℕ
+cut_of None = 1
+cut_of (Some file) = file.plan.cut
 
 -- it tells the contents of each name, none where nothing was added, and counts no faults
 abbrev pub steady_folder_of : SteadyFolderState → FolderState

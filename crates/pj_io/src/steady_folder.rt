@@ -4,14 +4,14 @@ ghost use Rattle.pj_io.specs.Causes.{counted};
 ghost use Rattle.pj_io.specs.Folders.{IsFresh, IsNew, KeepsNames, NoneFalls, RoseAt, SameElsewhere, SameEverywhere};
 ghost use Rattle.pj_io.specs.MemoryFolders.{added_of};
 ghost use Rattle.pj_io.specs.Plans.{fresh_plan};
-ghost use Rattle.pj_io.specs.Steady.{steady, steady_folder_of};
+ghost use Rattle.pj_io.specs.Steady.{cut_of, steady, steady_folder_of};
 
 use crate::book::{Note, enter, note_last, note_opened};
 use crate::finding::find_file;
 use crate::memory_file::MemFile;
 use crate::steady_source::SteadySource;
 use crate::{Folder, OpenStop};
-use pj_value::{List, NoMemory};
+use pj_value::{Bytes, List, NoMemory};
 use std::alloc::Global;
 use std::marker::Model;
 
@@ -48,19 +48,19 @@ impl SteadyFolder {
         &mut self,
         alloc: Global,
         name: &[u8],
-        bytes: &[u8],
+        bytes: Bytes,
         cut: usize,
     ) -> Result<(), NoMemory>
         requires cut { 0 < cut }
         requires new { added_of self.old.files name.now ≡ None }
-        ensures added { OnOk result (added_of self.new.files name.now ≡ Some (record { bytes = bytes.now; plan = fresh_plan [] cut })) }
+        ensures added { OnOk result (added_of self.new.files name.now ≡ Some (record { bytes = bytes; plan = fresh_plan [] cut })) }
         ensures others { SameElsewhere name.now (added_of self.old.files) (added_of self.new.files) }
         ensures err { OnErr result (self.new ≡ self.old) }
         ensures notes { self.new.notes ≡ self.old.notes }
     {
         let file = MemFile {
             name: List::copy_of(alloc, name)?,
-            bytes: List::copy_of(alloc, bytes)?,
+            bytes,
             cut,
             fails: List::new(alloc),
         };
@@ -88,6 +88,7 @@ impl Folder for SteadyFolder {
         ensures later { NoneFalls (steady_folder_of self.old).faults (steady_folder_of self.new).faults }
         ensures cause { IsErrOf result OpenStop.Failed → RoseAt name.now (steady_folder_of self.old).faults (steady_folder_of self.new).faults }
         ensures other_faults { SameElsewhere name.now (steady_folder_of self.old).faults (steady_folder_of self.new).faults }
+        ensures cut { IfOk result (λ file. file.cut ≡ cut_of (added_of self.old.files name.now)) }
         ensures never_fails { IsErrOf result OpenStop.Failed → ⊥ }
         ensures files { self.new.files ≡ self.old.files }
     {
