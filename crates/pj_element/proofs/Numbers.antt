@@ -29,8 +29,8 @@ ten_power i (suc k) =
     let next : i + suc k ≡ suc (i + k) = omega arith in
     rw next (omega (arith, ten_power i k, pow-suc 10 (i + k)))
 
--- a number of at most 17 digits
-pub few_fit : (i n : ℕ) → n < 10 ^ i → i < 18 → n < 10 ^ 17
+-- a number of at most 18 digits
+pub few_fit : (i n : ℕ) → n < 10 ^ i → i < 19 → n < 10 ^ 18
 few_fit i n lt few =
-    let more : 10 ^ i ≤ 10 ^ 17 = subst (λ (k : ℕ). 10 ^ i ≤ 10 ^ k) {x = i + (17 - i)} {y = 17} (omega arith) (ten_power i (17 - i)) in
+    let more : 10 ^ i ≤ 10 ^ 18 = subst (λ (k : ℕ). 10 ^ i ≤ 10 ^ k) {x = i + (18 - i)} {y = 18} (omega arith) (ten_power i (18 - i)) in
     omega (arith, more, lt)

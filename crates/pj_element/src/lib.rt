@@ -21,6 +21,6 @@ pub use element::{Read, Reject};
 pub use forms::{Spelled, read_pattern};
 pub use laws::{lines_are_read_again, lines_hold_no_feed, reading_is_exact};
 pub use reading::{pattern_text, punct_text, read_element, row_text};
-pub use spelled::read_value;
+pub use spelled::{read_digits, read_value};
 pub use storable::see_patterns;
 pub use tally::Tally;

@@ -25,6 +25,21 @@ pub fn read_value(alloc: Global, cell: &[u8]) -> Result<Option<Value>, NoMemory>
     }
 }
 
+/// The number that at most 19 digits spell, below 10^19, or `None` exactly where a byte is no digit. No digits spell 0.
+pub fn read_digits(digits: &[u8]) -> Option<u64>
+    requires { length digits.now ≤ 19 }
+    ensures { result ≡ number_from 0 digits.now }
+{
+    let mut number = 0u64;
+    for digit in digits {
+        if !digit.is_ascii_digit() {
+            return None;
+        }
+        number = number * 10 + u64::from(*digit - b'0');
+    }
+    Some(number)
+}
+
 // The integer that the cell spells.
 fn read_int(cell: &[u8]) -> Option<i64>
     ensures { result ≡ int_of cell.now }
@@ -49,27 +64,12 @@ fn read_number(digits: &[u8], limit: u64) -> Option<u64>
     if digits.is_empty() {
         return None;
     }
-    if digits.len() > 18 {
+    if digits.len() > 19 {
         return read_many(digits, limit);
     }
-    let number = read_few(digits)?;
+    let number = read_digits(digits)?;
     if number > limit {
         return None;
-    }
-    Some(number)
-}
-
-// The number that at most 18 digits spell, which is below 10^18.
-fn read_few(digits: &[u8]) -> Option<u64>
-    requires { length digits.now ≤ 18 }
-    ensures { result ≡ number_from 0 digits.now }
-{
-    let mut number = 0u64;
-    for digit in digits {
-        if !digit.is_ascii_digit() {
-            return None;
-        }
-        number = number * 10 + u64::from(*digit - b'0');
     }
     Some(number)
 }

@@ -15,5 +15,5 @@ mod word;
 mod writer;
 
 pub use laws::statements_are_read_again;
-pub use reader::read_plan;
+pub use reader::{is_passed, is_short, read_plan};
 pub use writer::plan_text;

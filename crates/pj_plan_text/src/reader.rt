@@ -58,14 +58,15 @@ fn read_lines(alloc: Global, bytes: &[u8]) -> Result<Lines, NoMemory>
     })
 }
 
-fn is_short(piece: &[u8]) -> bool
+/// Whether a piece of a text, a line with the line feed behind it, has at most 65,536 bytes: a longer one is no line.
+pub fn is_short(piece: &[u8]) -> bool
     ensures { result ≡ short piece.now }
 {
     piece.len() <= LINE_LIMIT
 }
 
-// Whether the line of the piece is skipped.
-fn is_passed(piece: &[u8]) -> bool
+/// Whether the line of a piece of a text is skipped: it is short, and has no byte but blanks, or `#` is its first other byte.
+pub fn is_passed(piece: &[u8]) -> bool
     ensures { result ≡ passed piece.now }
 {
     is_short(piece) && is_skipped(line_of_piece(piece))

@@ -1,6 +1,5 @@
--- The numbers of the streams and joins of a plan, and numbers of few digits.
+-- The numbers of the streams and joins of a plan.
 use Rattle.std.proofs.Common.{◌≡◌, ℕ, zero, suc, ◌+◌, ◌^◌, ◌≤◌, ◌<◌, Bool, true, false, cond, List, [], ◌∷◌, length, get_or, refl, ap, subst, arith}
-use Rattle.std.proofs.Math.Nat.{pow-le-pow_right}
 use Rattle.pj_plan.specs.declared.node.Node.{Node}
 use Rattle.pj_plan.specs.declared.node.PlanNode.{PlanNode}
 use Rattle.pj_plan.specs.Nodes.{inputs_of, is_join, joins_of, numbers_from}
@@ -53,9 +52,3 @@ joins_are nodes joins place are lt =
 
 pub few_at : (nodes : List PlanNode) (number : ℕ) → IsSoundPlan nodes → number < length nodes → length (inputs_of (node_at nodes number)) ≤ 16
 few_at nodes number sound lt = few_inputs nodes sound number no_node lt
-
--- ---- digits
-
--- with one more of at most 19 digits a number fits
-pub digit_fits : (i n : ℕ) → n < 10 ^ i → i < 19 → n < 10 ^ 18
-digit_fits i n lt few = omega (arith, pow-le-pow_right {n = 10} (omega arith) {i = i} {j = 18} (omega arith), lt)

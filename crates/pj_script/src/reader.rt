@@ -1,20 +1,18 @@
 // From the bytes of a file to the steps of a script.
 ghost use Rattle.std.specs.Prelude.{◌≡◌, ℕ, Err, Ok, IfOk};
-ghost use Rattle.pj_plan_text.specs.PlanRead.{is_passed as passed, is_short as short};
 ghost use Rattle.pj_script.specs.Reading.{script_read, step_on as step_on_piece, AreStepsOf};
 
 use crate::step::{ScriptStep, ScriptStop};
 use crate::words::step_of;
-use pj_line::{cells, first_piece, is_skipped, line_of_piece};
+use pj_line::{cells, first_piece, line_of_piece};
 use pj_plan::Plan;
+use pj_plan_text::{is_passed, is_short};
 use pj_value::List;
 use std::alloc::Global;
 
-const LINE_LIMIT: usize = 65_536;
-
 /// The steps that the bytes of a script say over a plan, in order, each with the number of its line, counted from 1.
 ///
-/// Lines are cut into cells as those of a plan's text are; one that is blank or begins with `#` is skipped, but counts. A step is
+/// Lines are cut into cells as those of a plan's text are; one that is blank, or whose first byte that is no blank is `#`, is skipped, but counts. A step is
 /// `arrive STREAM`, `take`, `give JOIN TICKET`, `sweep JOIN INPUT` or `drain`, with names of the plan's nodes; an input is named by
 /// the node that feeds the join, and a ticket is 1 to 19 digits.
 ///
@@ -46,19 +44,6 @@ pub fn read_script(
         rest = behind;
     }
     Ok(steps)
-}
-
-fn is_short(piece: &[u8]) -> bool
-    ensures { result ≡ short piece.now }
-{
-    piece.len() <= LINE_LIMIT
-}
-
-// Whether the line of the piece is skipped.
-fn is_passed(piece: &[u8]) -> bool
-    ensures { result ≡ passed piece.now }
-{
-    is_short(piece) && is_skipped(line_of_piece(piece))
 }
 
 // The step that the line of a piece is, if it is one.

@@ -1,12 +1,12 @@
 // What the cells of a line of a script say.
 ghost use Rattle.std.specs.Prelude.{◌≡◌, ◌<◌, ◌≤◌, length, position, IfSome};
 ghost use Rattle.pj_line.specs.Cells.{bytes_in};
-ghost use Rattle.pj_element.specs.Spelled.{number_from};
 ghost use Rattle.pj_plan.specs.Nodes.{inputs_of as inputs_of_node};
 ghost use Rattle.pj_plan.specs.Canonical.{node_at};
 ghost use Rattle.pj_script.specs.Reading.{give_at, is_called, join_called as number_called, place_called as place_of_name, step_alone as alone, step_at_join as step_of_join, step_at_stream as step_of_stream, step_of as step_in_cells, sweep_at, ticket_of as ticket_in, IsJoin};
 
 use crate::step::ScriptStep;
+use pj_element::read_digits;
 use pj_line::Cells;
 use pj_plan::{Node, Plan};
 
@@ -147,20 +147,5 @@ fn ticket_of(cell: &[u8]) -> Option<u64>
     if cell.is_empty() || cell.len() > 19 {
         return None;
     }
-    digits_of(cell)
-}
-
-// The number that at most 19 digits spell, which is below 10^19.
-fn digits_of(digits: &[u8]) -> Option<u64>
-    requires { length digits.now ≤ 19 }
-    ensures { result ≡ number_from 0 digits.now }
-{
-    let mut number = 0u64;
-    for digit in digits {
-        if !digit.is_ascii_digit() {
-            return None;
-        }
-        number = number * 10 + u64::from(*digit - b'0');
-    }
-    Some(number)
+    read_digits(cell)
 }

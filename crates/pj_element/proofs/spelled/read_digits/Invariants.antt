@@ -1,6 +1,6 @@
 use Rattle.std.proofs.Common.{◌≡◌, ◌<◌, ◌^◌, drop}
 use Rattle.pj_element.specs.Spelled.{number_from}
-use Rattle.pj_element.proofs.spelled.read_few.Given as goal
+use Rattle.pj_element.proofs.spelled.read_digits.Given as goal
 
 abbrev pub invariant-loop-digit : goal.invariant-loop-digit
 invariant-loop-digit l = record {
