@@ -59,7 +59,7 @@ module _ (job : Job) (files : List (List ℕ)) (p : IsPlanned job) where
   tells-by : (script : Option (List (ℕ × ScriptStep))) → FitsBy script nodes → (node : ℕ) → ReachesLimit job.limit nodes (history_by script nodes accepted) node
       → IsCounted nodes node × (job.limit < coming_to nodes (map rows_of accepted) (map puncts_of (closed_lists nodes accepted)) node)
   tells-by None fit node r = limits-tell nodes p.well_made p.tree p.some p.certified accepted (accepted_lists job files) job.limit node r
-  tells-by (Some steps) fit node r = scripted-limits-tell (plan_run job) p.sound p.certified p.tree accepted steps (may steps fit) job.limit node r
+  tells-by (Some steps) fit node r = scripted-limits-tell (plan_run job) p.sound p.certified accepted steps (may steps fit) job.limit node r
 
   -- the history is legal
   pub legal_run : IsLegal nodes (history_of job files)

@@ -28,7 +28,7 @@ use Rattle.pj_laws.proofs.OneThreadAnswer.{lists-are, swept-whole}
 use Rattle.pj_laws.proofs.Reaching.{complete-limits-tell}
 use Rattle.pj_core.specs.Cores.{CoreState, StandsFor}
 use Rattle.pj_core.specs.Plans.{RunPlan, nodes_of}
-use Rattle.pj_core.proofs.Planned.{not-empty, planned}
+use Rattle.pj_core.proofs.Planned.{not-empty, planned, tree}
 use Rattle.pj_core_laws.proofs.Settles.{work-settles}
 use Rattle.pj_script.specs.declared.step.ScriptStep.{ScriptStep}
 use Rattle.pj_script.specs.Playing.{Played, all_left, goes_on, played_of, scripted_of}
@@ -184,7 +184,7 @@ pub scripted-is-lawful : (plan : RunPlan) → IsSoundPlan plan.nodes → AllAreC
 scripted-is-lawful plan sound certified lists steps may trace =
     hands_out-lawfully (nodes_of plan) (planned plan sound) (not-empty plan sound) trace (scripted_of (nodes_of plan) lists steps) (legal-of plan sound certified lists steps may).legal
 
-pub scripted-limits-tell : (plan : RunPlan) → IsSoundPlan plan.nodes → AllAreCertified (nodes_of plan) → IsTree (nodes_of plan) → ScriptedLimitsTell (nodes_of plan)
-scripted-limits-tell plan sound certified tree lists steps may limit node r =
+pub scripted-limits-tell : (plan : RunPlan) → IsSoundPlan plan.nodes → AllAreCertified (nodes_of plan) → ScriptedLimitsTell (nodes_of plan)
+scripted-limits-tell plan sound certified lists steps may limit node r =
     limits-of plan sound certified lists may.accepted (going plan sound certified lists steps may) (going-legal plan sound certified lists steps may) (going-whole plan sound certified lists steps may)
-    tree limit node (going-reaches plan sound certified lists steps may limit node r)
+    (tree plan sound) limit node (going-reaches plan sound certified lists steps may limit node r)
