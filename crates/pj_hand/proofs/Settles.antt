@@ -26,7 +26,7 @@ use Rattle.pj_core.proofs.Planned.{planned}
 use Rattle.pj_script.specs.Playing.{finished, under_way_at}
 use Rattle.pj_hand.specs.Hands.{HandState, HandStandsFor, HoldsUnderWay}
 use Rattle.pj_hand.specs.Held.{holds}
-use Rattle.pj_hand.specs.Settling.{HandMakes, HandStopsMaking, IsSettlingRefused, RefusesMaking, SettlesHand, giving, settling}
+use Rattle.pj_hand.specs.Settling.{HandMakes, HandStopsMaking, IsSettlingRefused, RefusesMaking, SettlesHand, giving, settling, unsettled}
 use Rattle.pj_hand.proofs.Keys.{gives-are, gives_of}
 use Rattle.pj_hand.proofs.Standing.{IsNeither}
 use Rattle.pj_hand.proofs.UnderWay.{entry-changes}
@@ -110,6 +110,13 @@ finished-is core h =
 settling-is : (old mid : HandState) (h : List Entry) → mid.core.plan ≡ old.core.plan → settling old h ≡ giving old h ++ finishing true mid.core (h ++ giving old h)
 settling-is old mid h p =
     ap (λ (es : List Entry). giving old h ++ es) (ap finished (sym (nodes-on old.core mid.core h (giving old h) p)) ∙ finished-is mid.core (h ++ giving old h))
+
+-- all but a drain, and a drain
+pub drain-is-last : (hand : HandState) (h : List Entry) → settling hand h ≡ unsettled hand h ++ plain Drain ∷ []
+drain-is-last hand h = settling-is hand hand h refl ∙ sym (append_assoc (giving hand h) (working true hand.core (h ++ giving hand h)) (plain Drain ∷ []))
+
+unsettled-is : (old mid : HandState) (h : List Entry) → mid.core.plan ≡ old.core.plan → unsettled old h ≡ giving old h ++ working true mid.core (h ++ giving old h)
+unsettled-is old mid h p = ap (λ (plan : RunPlan). giving old h ++ working true (record old.core { plan = plan }) (h ++ giving old h)) (sym p)
 
 gives-quiet : (probes : List Found) → AreNoDrains (gives_of probes)
 gives-quiet [] = tt
@@ -207,38 +214,28 @@ module _ (old mid new : HandState) (sound : IsSoundPlan old.core.plan.nodes) (m 
     }
 
   -- the core stops behind the gives
-  pub stops-settling : (stop : Stop) → StopsMaking mid.core new.core (working true mid.core) stop → HandStopsMaking old new (settling old) stop
+  pub stops-settling : (stop : Stop) → StopsMaking mid.core new.core (working true mid.core) stop → HandStopsMaking old new (unsettled old) stop
   stops-settling stop s = record {
     plan = s.plan ∙ m.plan;
     limit = s.limit ∙ m.limit;
     stopped = s.stopped;
     stops = λ h H.
         let G = h ++ giving old h in
-        subst (λ (es : List Entry). MakesSome old.core new.core h es stop) (sym (settling-is old mid h m.plan))
-        (some-behind old.core mid.core new.core h (giving old h) (finishing true mid.core G) stop m.plan m.limit (m.within h H)
-        (some-more mid.core new.core G (working true mid.core G) (plain Drain ∷ []) stop (s.stops G (m.stands h H).stands)));
+        subst (λ (es : List Entry). MakesSome old.core new.core h es stop) (sym (unsettled-is old mid h m.plan))
+        (some-behind old.core mid.core new.core h (giving old h) (working true mid.core G) stop m.plan m.limit (m.within h H) (s.stops G (m.stands h H).stands));
   }
 
 -- ---- refusals
 
 -- more entries were to come
-refuses-more : (old new : HandState) (stop : Stop) → RefusesMaking old new (giving old) stop → RefusesMaking old new (settling old) stop
+refuses-more : (old new : HandState) (stop : Stop) → RefusesMaking old new (giving old) stop → IsSettlingRefused None old new stop
 refuses-more old new stop (inl s) = inl (record {
   plan = s.plan;
   limit = s.limit;
   stopped = s.stopped;
-  stops = λ h H. some-more old.core new.core h (giving old h) (finished (nodes_from (nodes_after old.core h) (giving old h))) stop (s.stops h H);
+  stops = λ h H. some-more old.core new.core h (giving old h) (working true old.core (h ++ giving old h)) stop (s.stops h H);
 })
-refuses-more old new stop (inr l) = inr (record {
-  on = l.on;
-  memory = l.memory;
-  plan = l.plan;
-  limit = l.limit;
-  makes = λ h H.
-      let t = l.makes h H in
-      let more = finished (nodes_from (nodes_after old.core h) (giving old h)) in
-      record { front = t.front; back = t.back ++ more; parts = ap (λ (es : List Entry). es ++ more) t.parts ∙ append_assoc t.front t.back more; within = t.within; stands = t.stands };
-})
+refuses-more old new stop (inr l) = inr l
 
 pub settling-refused : (old new : HandState) (stop : Stop) → old.core.kept.stop ≡ None → RefusesMaking old new (giving old) stop → IsSettlingRefused old.core.kept.stop old new stop
 settling-refused old new stop on r = subst (λ (o : Option Stop). IsSettlingRefused o old new stop) (sym on) (refuses-more old new stop r)

@@ -1,5 +1,5 @@
 -- Which tickets are under way at the joins of a plan, and what an entry changes of that.
-use Rattle.std.proofs.Common.{ℕ, zero, suc, ◌<◌, ◌≤◌, Bool, true, false, cond, not, ◌&&◌, ◌||◌, List, [], ◌∷◌, ◌++◌, ◌≡◌, ◌⊎◌, filter, map, length, get_or, eqb, refl, sym, ap, ap₂, ◌∙◌, subst, inl, inr, arith}
+use Rattle.std.proofs.Common.{ℕ, zero, suc, ◌<◌, ◌≤◌, Bool, true, false, cond, not, ◌&&◌, ◌||◌, List, [], ◌∷◌, ◌++◌, ◌≡◌, ◌⊎◌, filter, map, length, get_or, eqb, refl, sym, ap, ◌∙◌, subst, inl, inr, arith}
 use Rattle.std.proofs.lemmas.Bool.{and_from, and_parts, both_ways, cases_lt, eqb-true, false≢true, false_from_ne_true, not-true, not_from_false, true_from_ne_false}
 use Rattle.std.proofs.lemmas.List.{get_or_past}
 use Rattle.pj_value.proofs.Members.{In-filter, In-filter_from}
@@ -113,78 +113,51 @@ node-cases plan planned n = elim (cases_lt n (length plan)) [ inl lt ↦ there l
     there lt (Union k u) q = inr (other lt (subst IsNoJoin (sym q) tt))
     there lt (Group spec rows) q = inr (other lt (subst IsNoJoin (sym q) tt))
 
--- ---- what arrives takes and gives nothing
+-- ---- the tickets that are taken, and those that are given
 
-arrived-taken : (spec : JoinData) (s : JoinState) (came : List Arrival) → (run spec s (map step_at came)).taken ≡ s.taken
-arrived-taken spec s [] = refl
-arrived-taken spec s (a ∷ came) = arrived-taken spec (step spec s (step_at a)) came ∙ one a.input a.element
+abbrev Ways : Type 0
+Ways = List ℕ × List ℕ
+
+abbrev ways : JoinState → Ways
+ways s = (s.taken, s.given)
+
+-- what arrives takes and gives nothing
+arrived-ways : (spec : JoinData) (s : JoinState) (came : List Arrival) → ways (run spec s (map step_at came)) ≡ ways s
+arrived-ways spec s [] = refl
+arrived-ways spec s (a ∷ came) = arrived-ways spec (step spec s (step_at a)) came ∙ one a.input a.element
   where
-    one : (k : ℕ) (e : Element) → (step spec s (join_step k e)).taken ≡ s.taken
+    one : (k : ℕ) (e : Element) → ways (step spec s (join_step k e)) ≡ ways s
     one k (Tuple row) = refl
     one k (Punct patterns) = refl
 
-arrived-given : (spec : JoinData) (s : JoinState) (came : List Arrival) → (run spec s (map step_at came)).given ≡ s.given
-arrived-given spec s [] = refl
-arrived-given spec s (a ∷ came) = arrived-given spec (step spec s (step_at a)) came ∙ one a.input a.element
-  where
-    one : (k : ℕ) (e : Element) → (step spec s (join_step k e)).given ≡ s.given
-    one k (Tuple row) = refl
-    one k (Punct patterns) = refl
+-- with those that an event takes and gives at the join
+abbrev ways_with : ℕ → Event → Ways → Ways
+ways_with n (Taken k u) before = (cond (eqb k n) (u ∷ []) [] ++ before.0, before.1)
+ways_with n (Given k u) before = (before.0, cond (eqb k n) (u ∷ []) [] ++ before.1)
+ways_with n _ before = before
 
--- the tickets of a join that an event takes, and those that it gives
-abbrev taken_by : ℕ → Event → List ℕ
-taken_by n (Taken k u) = cond (eqb k n) (u ∷ []) []
-taken_by n _ = []
-
-abbrev given_by : ℕ → Event → List ℕ
-given_by n (Given k u) = cond (eqb k n) (u ∷ []) []
-given_by n _ = []
-
-own-taken : (spec : JoinData) (s : JoinState) (n : ℕ) (event : Event) → (run spec s (own_step n event)).taken ≡ taken_by n event ++ s.taken
-own-taken spec s n (Taken k u) = go (eqb k n)
+own-ways : (spec : JoinData) (s : JoinState) (n : ℕ) (event : Event) → ways (run spec s (own_step n event)) ≡ ways_with n event (ways s)
+own-ways spec s n (Taken k u) = go (eqb k n)
   where
-    go : (b : Bool) → (run spec s (cond b (Take u ∷ []) [])).taken ≡ cond b (u ∷ []) [] ++ s.taken
+    go : (b : Bool) → ways (run spec s (cond b (Take u ∷ []) [])) ≡ (cond b (u ∷ []) [] ++ s.taken, s.given)
     go true = refl
     go false = refl
-own-taken spec s n (Given k u) = go (eqb k n)
+own-ways spec s n (Given k u) = go (eqb k n)
   where
-    go : (b : Bool) → (run spec s (cond b (Give u ∷ []) [])).taken ≡ s.taken
+    go : (b : Bool) → ways (run spec s (cond b (Give u ∷ []) [])) ≡ (s.taken, cond b (u ∷ []) [] ++ s.given)
     go true = refl
     go false = refl
-own-taken spec s n (Swept k i) = go (eqb k n)
+own-ways spec s n (Swept k i) = go (eqb k n)
   where
-    go : (b : Bool) → (run spec s (cond b (Sweep i ∷ []) [])).taken ≡ s.taken
+    go : (b : Bool) → ways (run spec s (cond b (Sweep i ∷ []) [])) ≡ ways s
     go true = refl
     go false = refl
-own-taken spec s n (Arrive stream e) = refl
-own-taken spec s n Drain = refl
-own-taken spec s n Halt = refl
-own-taken spec s n (Look p) = refl
-own-taken spec s n (Stopped stop) = refl
-own-taken spec s n Idle = refl
-
-own-given : (spec : JoinData) (s : JoinState) (n : ℕ) (event : Event) → (run spec s (own_step n event)).given ≡ given_by n event ++ s.given
-own-given spec s n (Given k u) = go (eqb k n)
-  where
-    go : (b : Bool) → (run spec s (cond b (Give u ∷ []) [])).given ≡ cond b (u ∷ []) [] ++ s.given
-    go true = refl
-    go false = refl
-own-given spec s n (Taken k u) = go (eqb k n)
-  where
-    go : (b : Bool) → (run spec s (cond b (Take u ∷ []) [])).given ≡ s.given
-    go true = refl
-    go false = refl
-own-given spec s n (Swept k i) = go (eqb k n)
-  where
-    go : (b : Bool) → (run spec s (cond b (Sweep i ∷ []) [])).given ≡ s.given
-    go true = refl
-    go false = refl
-own-given spec s n (Arrive stream e) = refl
-own-given spec s n Drain = refl
-own-given spec s n Halt = refl
-own-given spec s n (Look p) = refl
-own-given spec s n (Stopped stop) = refl
-own-given spec s n Idle = refl
+own-ways spec s n (Arrive stream e) = refl
+own-ways spec s n Drain = refl
+own-ways spec s n Halt = refl
+own-ways spec s n (Look p) = refl
+own-ways spec s n (Stopped stop) = refl
+own-ways spec s n Idle = refl
 
 -- ---- what an event changes
 
@@ -199,8 +172,12 @@ abbrev NewTake : ℕ → List ℕ → Event → Type 0
 NewTake n G (Taken k v) = k ≡ n → has G v ≡ false
 NewTake n G _ = Unit {0}
 
-told-changed : (n u : ℕ) (T G : List ℕ) (event : Event) → NewTake n G event → (has (taken_by n event ++ T) u && not (has (given_by n event ++ G) u)) ≡ changed n u event (has T u && not (has G u))
-told-changed n u T G (Taken k v) new = go (eqb k n) refl
+-- of the tickets that are taken and given, whether this one is taken and not given
+abbrev tells : ℕ → Ways → Bool
+tells u w = has w.0 u && not (has w.1 u)
+
+told-changed : (n u : ℕ) (w : Ways) (event : Event) → NewTake n w.1 event → tells u (ways_with n event w) ≡ changed n u event (tells u w)
+told-changed n u (T, G) (Taken k v) new = go (eqb k n) refl
   where
     own : (b : Bool) → eqb v u ≡ b → has G v ≡ false → ((b || has T u) && not (has G u)) ≡ (b || (has T u && not (has G u)))
     own true q f = ap not (subst (λ (m : ℕ). has G m ≡ false) (eqb-true v u q) f)
@@ -209,7 +186,7 @@ told-changed n u T G (Taken k v) new = go (eqb k n) refl
     go : (b : Bool) → eqb k n ≡ b → (has (cond b (v ∷ []) [] ++ T) u && not (has G u)) ≡ ((b && eqb v u) || (has T u && not (has G u)))
     go true q = own (eqb v u) refl (new (eqb-true k n q))
     go false q = refl
-told-changed n u T G (Given k v) new = go (eqb k n)
+told-changed n u (T, G) (Given k v) new = go (eqb k n)
   where
     three : (a b c : Bool) → (a && not (b || c)) ≡ ((a && not c) && not b)
     three true true true = refl
@@ -225,13 +202,13 @@ told-changed n u T G (Given k v) new = go (eqb k n)
     go : (b : Bool) → (has T u && not (has (cond b (v ∷ []) [] ++ G) u)) ≡ ((has T u && not (has G u)) && not (b && eqb v u))
     go true = three (has T u) (eqb v u) (has G u)
     go false = two (has T u && not (has G u))
-told-changed n u T G (Swept k i) new = refl
-told-changed n u T G (Arrive stream e) new = refl
-told-changed n u T G Drain new = refl
-told-changed n u T G Halt new = refl
-told-changed n u T G (Look p) new = refl
-told-changed n u T G (Stopped stop) new = refl
-told-changed n u T G Idle new = refl
+told-changed n u w (Swept k i) new = refl
+told-changed n u w (Arrive stream e) new = refl
+told-changed n u w Drain new = refl
+told-changed n u w Halt new = refl
+told-changed n u w (Look p) new = refl
+told-changed n u w (Stopped stop) new = refl
+told-changed n u w Idle new = refl
 
 -- ---- histories of a plan
 
@@ -282,17 +259,11 @@ module _ (plan : List Node) (planned : ArePlanned [] plan) where
       ∙ run-append J.spec (run J.spec start (steps n h)) (own_step n e.event) (map step_at (arrivals_by (nodes_from plan h) e.event n))
       ∙ ap (λ (s : JoinState). run J.spec (run J.spec s (own_step n e.event)) (map step_at (arrivals_by (nodes_from plan h) e.event n))) (sym (state-is n J h))
 
-  taken-more : (n : ℕ) (J : JoinsAt plan n) (h : List Entry) (e : Entry) → (join_at (nodes_from plan (h ++ e ∷ [])) n).taken ≡ taken_by n e.event ++ (join_at (nodes_from plan h) n).taken
-  taken-more n J h e =
-      ap (λ (s : JoinState). s.taken) (state-more n J h e)
-      ∙ arrived-taken J.spec (run J.spec (join_at (nodes_from plan h) n) (own_step n e.event)) (arrivals_by (nodes_from plan h) e.event n)
-      ∙ own-taken J.spec (join_at (nodes_from plan h) n) n e.event
-
-  given-more : (n : ℕ) (J : JoinsAt plan n) (h : List Entry) (e : Entry) → (join_at (nodes_from plan (h ++ e ∷ [])) n).given ≡ given_by n e.event ++ (join_at (nodes_from plan h) n).given
-  given-more n J h e =
-      ap (λ (s : JoinState). s.given) (state-more n J h e)
-      ∙ arrived-given J.spec (run J.spec (join_at (nodes_from plan h) n) (own_step n e.event)) (arrivals_by (nodes_from plan h) e.event n)
-      ∙ own-given J.spec (join_at (nodes_from plan h) n) n e.event
+  ways-more : (n : ℕ) (J : JoinsAt plan n) (h : List Entry) (e : Entry) → ways (join_at (nodes_from plan (h ++ e ∷ [])) n) ≡ ways_with n e.event (ways (join_at (nodes_from plan h) n))
+  ways-more n J h e =
+      ap ways (state-more n J h e)
+      ∙ arrived-ways J.spec (run J.spec (join_at (nodes_from plan h) n) (own_step n e.event)) (arrivals_by (nodes_from plan h) e.event n)
+      ∙ own-ways J.spec (join_at (nodes_from plan h) n) n e.event
 
   -- the step that takes a ticket is allowed
   take-act : (h : List Entry) (k v : ℕ) → IsEventAllowed (reached_of false plan h) (Taken k v) → IsStepAllowed (nodes_from plan h) (Act k (Take v))
@@ -338,8 +309,8 @@ module _ (plan : List Node) (planned : ArePlanned [] plan) where
 
       go : JoinsAt plan n ⊎ NoJoinAt plan n → is_under (join_at (nodes_from plan (h ++ e ∷ [])) n) u ≡ changed n u e.event (is_under (join_at (nodes_from plan h) n) u)
       go (inl J) =
-          ap₂ (λ (T G : List ℕ). has T u && not (has G u)) (taken-more n J h e) (given-more n J h e)
-          ∙ told-changed n u (join_at (nodes_from plan h) n).taken (join_at (nodes_from plan h) n).given e.event (new-take n J h e.event parts.0 parts.1.0)
+          ap (tells u) (ways-more n J h e)
+          ∙ told-changed n u (ways (join_at (nodes_from plan h) n)) e.event (new-take n J h e.event parts.0 parts.1.0)
       go (inr N) =
           ap (λ (s : JoinState). is_under s u) (N.still (h ++ e ∷ []))
           ∙ none-there n u N h e.event parts.1.0

@@ -1,5 +1,5 @@
 -- What settling a hand makes.
-use Rattle.std.specs.Prelude.{◌≡◌, ◌⊎◌, List, [], ◌++◌, Option, Some, None}
+use Rattle.std.specs.Prelude.{◌≡◌, ◌⊎◌, true, List, [], ◌++◌, Option, Some, None}
 use Rattle.pj_events.specs.declared.events.Entry.{Entry}
 use Rattle.pj_events.specs.declared.events.Out.{Out}
 use Rattle.pj_events.specs.declared.events.Stop.{Stop}
@@ -7,7 +7,7 @@ use Rattle.pj_events.specs.declared.events.Stop.TheVariants.{NoMemory}
 use Rattle.pj_events.specs.Limits.{StaysWithin}
 use Rattle.pj_events.specs.Outcomes.{outputs_of}
 use Rattle.pj_core.specs.Cores.{nodes_after, nodes_in}
-use Rattle.pj_core.specs.Turns.{MakesSome}
+use Rattle.pj_core.specs.Turns.{MakesSome, working}
 use Rattle.pj_script.specs.Playing.{gives, settled}
 use Rattle.pj_hand.specs.Hands.{HandState, HandStandsFor}
 use Rattle.pj_hand.specs.Steps.{StaysAsItWas}
@@ -19,6 +19,10 @@ settling hand history = settled (nodes_after hand.core history)
 -- the gives alone
 abbrev pub giving : HandState → List Entry → List Entry
 giving hand history = gives (nodes_after hand.core history)
+
+-- all but the drain: the gives, then all probes, and a sweep of each input of each join with all probes after it
+abbrev pub unsettled : HandState → List Entry → List Entry
+unsettled hand history = giving hand history ++ working true hand.core (history ++ giving hand history)
 
 -- the hand made the entries that these are behind each history
 pub record HandMakes (old new : HandState) (entries : List Entry → List Entry) : Type 0 where
@@ -51,7 +55,7 @@ pub record MakesFront (old new : HandState) (history entries : List Entry) : Typ
   pub within : StaysWithin old.core.limit (nodes_in old.core) history front
   pub stands : HandStandsFor new (history ++ front)
 
--- memory was wanting in the work of a probe: nothing stopped, a front of these entries was made, and the probe is still held
+-- memory was wanting for a probe: nothing stopped, a front of these entries was made, and what is under way behind it is still held
 pub record LacksMemoryAmong (old new : HandState) (entries : List Entry → List Entry) (stop : Stop) : Type 0 where
   pub on : (old.core.kept.stop ≡ None) × (new.core.kept.stop ≡ None)
   pub memory : stop ≡ NoMemory
@@ -63,7 +67,8 @@ pub record LacksMemoryAmong (old new : HandState) (entries : List Entry → List
 abbrev pub RefusesMaking : HandState → HandState → (List Entry → List Entry) → Stop → Type 0
 RefusesMaking old new entries stop = HandStopsMaking old new entries stop ⊎ LacksMemoryAmong old new entries stop
 
--- the answer is the stop that was answered before; where there was none the settling stops, or memory is wanting in a probe's work
+-- The answer is the stop that was answered before. Where there was none the core stops before the drain, or memory is wanting for a
+-- probe that is to be given: in both, nothing that was gained is drained
 abbrev pub IsSettlingRefused : Option Stop → HandState → HandState → Stop → Type 0
-IsSettlingRefused None old new stop = RefusesMaking old new (settling old) stop
+IsSettlingRefused None old new stop = HandStopsMaking old new (unsettled old) stop ⊎ LacksMemoryAmong old new (giving old) stop
 IsSettlingRefused (Some before) old new stop = StaysAsItWas old new before stop

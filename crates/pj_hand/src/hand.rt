@@ -23,7 +23,7 @@ use std::marker::Model;
 /// A core whose steps are made one at a time, and the probes that were taken from it and are not given.
 ///
 /// It stands for a history where its core does, and while nothing stopped it holds the probes of the tickets that are under way
-/// there. After a stop it answers the same stop and changes nothing.
+/// there. After a stop each call that can stop answers it again and changes nothing; a drain goes on.
 #[derive(Drop)]
 pub struct Hand {
     alloc: Global,
@@ -141,11 +141,12 @@ impl Hand {
         }
     }
 
-    /// Works on the probe of a ticket of a join that is under way, and gives it; `false` exactly where it is not under way. The hand
-    /// stands for a history: what arrived might follow.
+    /// Gives a ticket of a join: where it is under way, its probe is worked on, what that finds goes up, and the probe is let go. It
+    /// is `false` exactly where the ticket is not under way; nothing changes then. The hand stands for a history: what arrived might
+    /// follow.
     ///
     /// The stops are those of an arrival. Where there is no memory for the work of the probe, or for the place of the probe that was
-    /// taken last, nothing stops, and the probe is still held.
+    /// taken last, nothing stops or changes, and the probe is still held.
     pub fn give(&mut self, join: u32, ticket: u64) -> Result<bool, Stop>
         requires { StandsForOne self.old }
         ensures ok { IfOk result (λ made. AnswersStep made self.old self.new (Give join ticket)) }

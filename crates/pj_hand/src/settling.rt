@@ -13,8 +13,10 @@ impl Hand {
     /// is taken, worked on and given, in order; each join is then swept, input by input, and all that is pending after each sweep is
     /// done; and all that was not drained is handed out. The hand stands for a history: what arrived might follow.
     ///
-    /// The stops are those of an arrival. Where there is no memory for the work of a probe, or for the place of the probe that was
-    /// taken last, nothing stops, and that probe and those behind it are still held. What was gained before stays to be drained.
+    /// `Limit` comes where an entry on the way brings one element more to a join or a group than may reach it; `NoMemory` where memory
+    /// could not be had. Both stop the core; but where there is no memory for the work of a probe that was under way, or for the place
+    /// of the one that was taken last, nothing stops, and that probe and those behind it are still held. What was gained before stays
+    /// to be drained. A hand that stopped before answers that stop again and changes nothing.
     pub fn settle(&mut self) -> Result<List<Out>, Stop>
         requires { StandsForOne self.old }
         ensures ok { IfOk result (λ outs. SettlesHand self.old self.new outs) }

@@ -1,5 +1,5 @@
 -- What settling a hand hands out, and how it ends.
-use Rattle.std.proofs.Common.{ℕ, zero, suc, ◌+◌, ◌≡◌, ◌⊎◌, Bool, List, [], ◌∷◌, ◌++◌, Option, Some, None, Result, Ok, Err, IfErr, IsTrue, length, refl, sym, ap, ap₂, ◌∙◌, subst, inl, inr, append_assoc, append-nil}
+use Rattle.std.proofs.Common.{ℕ, zero, suc, ◌+◌, ◌≡◌, Bool, true, List, [], ◌∷◌, ◌++◌, Option, Some, None, Result, Ok, Err, IfErr, IsTrue, length, refl, sym, ap, ap₂, ◌∙◌, subst, inl, inr, append_assoc, append-nil}
 use Rattle.pj_io.specs.States.{SinkState}
 use Rattle.pj_events.specs.declared.events.Entry.{Entry}
 use Rattle.pj_events.specs.declared.events.Event.TheVariants.{Drain, Stopped, Sweep as Swept}
@@ -7,7 +7,6 @@ use Rattle.pj_events.specs.declared.events.Out.{Out}
 use Rattle.pj_events.specs.declared.events.Stop.{Stop}
 use Rattle.pj_events.specs.declared.events.Stop.TheVariants.{Limit, NoMemory}
 use Rattle.pj_events.specs.History.{Reached, begun, nodes_from, reached_from, reached_of}
-use Rattle.pj_events.specs.Limits.{BeginsBeyond}
 use Rattle.pj_events.specs.OneThread.{Place, pending_at, places_from, plain, probes, probes_at, probes_from, sweeps_at}
 use Rattle.pj_events.specs.Outcomes.{outputs_of}
 use Rattle.pj_events.specs.Plan.{Node}
@@ -16,10 +15,12 @@ use Rattle.pj_laws.proofs.Histories.{outputs-append, reached-append, reached-nod
 use Rattle.pj_laws.proofs.Idle.{stop-silent}
 use Rattle.pj_core.specs.Cores.{StandsFor, nodes_after, nodes_in}
 use Rattle.pj_core.specs.Plans.{RunPlan, nodes_of}
-use Rattle.pj_core.specs.Turns.{MakesSome}
-use Rattle.pj_script.specs.Playing.{gives, gives_at, gives_from, settled, under_way_at}
+use Rattle.pj_core.specs.Turns.{MakesSome, working}
+use Rattle.pj_core.proofs.Making.{stops-longer}
+use Rattle.pj_script.specs.Playing.{gives_at, gives_from, under_way_at}
 use Rattle.pj_hand.specs.Hands.{HandState, HandStandsFor}
-use Rattle.pj_hand.specs.Settling.{IsSettlingRefused, MakesFront, settling}
+use Rattle.pj_hand.specs.Settling.{IsSettlingRefused, MakesFront, giving, settling, unsettled}
+use Rattle.pj_hand.proofs.Settles.{drain-is-last}
 use Rattle.pj_report.specs.declared.stops.WriteStop.{WriteStop}
 use Rattle.pj_report.specs.declared.stops.WriteStop.TheVariants.{Failed, NoMemory as WriteMemory}
 use Rattle.pj_report.specs.declared.writer.Form.{Form}
@@ -62,48 +63,12 @@ sweeps-quiet (place ∷ places) nodes =
     quiet-both _ after (tt, probes-quiet (length swept) 0 swept) (sweeps-quiet places (nodes_from nodes after))
 
 -- what is made before the drain
-abbrev before_drain : List Node → List Entry
-before_drain nodes =
-    let given = nodes_from nodes (gives nodes) in
-    let probed = probes given in
-    let after = nodes_from given probed in
-    gives nodes ++ (probed ++ sweeps_at after (places_from 0 after))
-
-drain-is-last : (nodes : List Node) → settled nodes ≡ before_drain nodes ++ plain Drain ∷ []
-drain-is-last nodes =
-    let given = nodes_from nodes (gives nodes) in
-    let probed = probes given in
-    let after = nodes_from given probed in sym (append_assoc (gives nodes) (probed ++ sweeps_at after (places_from 0 after)) (plain Drain ∷ []))
-
-quiet-before : (nodes : List Node) → AreNoDrains (before_drain nodes)
-quiet-before nodes =
-    let given = nodes_from nodes (gives nodes) in
-    let probed = probes given in
-    let after = nodes_from given probed in
-    quiet-both _ (gives nodes) (gives-quiet nodes 0 (length nodes)) (quiet-both _ probed (probes-quiet (length given) 0 given) (sweeps-quiet (places_from 0 after) after))
-
--- a front is all, or one of what is before the last entry
-front-or-all : (xs front back : List Entry) (e : Entry) → xs ++ e ∷ [] ≡ front ++ back → (front ≡ xs ++ e ∷ []) ⊎ ((more : List Entry) × (xs ≡ front ++ more))
-front-or-all xs [] back e q = inr (xs, refl)
-front-or-all [] (f ∷ []) back e q = inl (let same : e ≡ f = cc q in ap (λ (x : Entry). x ∷ []) (sym same))
-front-or-all [] (f ∷ g ∷ front) back e q = absurd (let none : [] ≡ g ∷ (front ++ back) = cc q in cc)
-front-or-all (x ∷ xs) (f ∷ front) back e q =
-    let same : x ≡ f = cc q in
-    let rest : xs ++ e ∷ [] ≡ front ++ back = cc q in
-    elim (front-or-all xs front back e rest) [
-      | inl all ↦ inl (ap₂ (λ (y : Entry) (ys : List Entry). y ∷ ys) (sym same) all)
-      | inr more ↦ inr (more.0, ap₂ (λ (y : Entry) (ys : List Entry). y ∷ ys) same more.1)
-    ]
-
--- where something is behind it, it is not all
-not-all : (xs front : List Entry) (e b : Entry) (back : List Entry) → xs ++ e ∷ [] ≡ front ++ b ∷ back → (more : List Entry) × (xs ≡ front ++ more)
-not-all xs [] e b back q = (xs, refl)
-not-all [] (f ∷ []) e b back q = absurd (let none : [] ≡ b ∷ back = cc q in cc)
-not-all [] (f ∷ g ∷ front) e b back q = absurd (let none : [] ≡ g ∷ (front ++ b ∷ back) = cc q in cc)
-not-all (x ∷ xs) (f ∷ front) e b back q =
-    let same : x ≡ f = cc q in
-    let rest : xs ++ e ∷ [] ≡ front ++ b ∷ back = cc q in
-    let r = not-all xs front e b back rest in (r.0, ap₂ (λ (y : Entry) (ys : List Entry). y ∷ ys) same r.1)
+quiet-before : (hand : HandState) (h : List Entry) → AreNoDrains (unsettled hand h)
+quiet-before hand h =
+    let nodes = nodes_after hand.core h in
+    let given = nodes_after hand.core (h ++ giving hand h) in
+    let after = nodes_after hand.core ((h ++ giving hand h) ++ probes given) in
+    quiet-both _ (giving hand h) (gives-quiet nodes 0 (length nodes)) (quiet-both _ (probes given) (probes-quiet (length given) 0 given) (sweeps-quiet (places_from 0 after) after))
 
 -- ---- what is not drained behind entries
 
@@ -138,61 +103,49 @@ module _ (a b : HandState) (h : List Entry) (plan : b.core.plan ≡ a.core.plan)
       append_assoc a.core.kept.undrained (outputs_of trace (nodes_after a.core h) front) (outputs_of trace (nodes_from (nodes_after a.core h) front) back)
       ∙ ap (λ (outs : List Out). a.core.kept.undrained ++ outs) (sym (outputs-append trace (nodes_after a.core h) front back))
 
-  -- behind the last drain nothing is
-  drained-behind : (xs : List Entry) → (reached_from trace here (xs ++ plain Drain ∷ [])).undrained ≡ []
-  drained-behind xs = ap (λ (r : Reached). r.undrained) (reached-append trace here xs (plain Drain ∷ []))
-
-  drained-stopped : (xs : List Entry) (stop : Stop) → (reached_from trace here ((xs ++ plain Drain ∷ []) ++ plain (Stopped stop) ∷ [])).undrained ≡ []
-  drained-stopped xs stop =
-      ap (λ (r : Reached). r.undrained) (reached-append trace here (xs ++ plain Drain ∷ []) (plain (Stopped stop) ∷ []))
-      ∙ (ap₂ (λ (us vs : List Out). us ++ vs) (drained-behind xs) (stop-silent trace (reached_from trace here (xs ++ plain Drain ∷ [])).nodes stop))
-
   -- ---- settling that stopped
 
   abbrev entries : List Entry
   entries = settling a h
 
-  quiet-front : (front more : List Entry) → before_drain (nodes_after a.core h) ≡ front ++ more → AreNoDrains front
-  quiet-front front more q = front-no-drains front more (subst AreNoDrains q (quiet-before (nodes_after a.core h)))
+  -- what a front hands out is the first part
+  front-some : (front back : List Entry) (outs : List Out) → entries ≡ front ++ back → outs ≡ outs_with a h front → HandsSome a h entries outs NoMemory
+  front-some front back outs parts is = (
+    outputs_of trace (nodes_from (nodes_after a.core h) front) back,
+    ap (λ (os : List Out). os ++ outputs_of trace (nodes_from (nodes_after a.core h) front) back) is ∙ outs-more front back ∙ ap (λ (es : List Entry). outs_with a h es) (sym parts),
+  )
 
-  stopped-front : (front more : List Entry) (stop : Stop) → before_drain (nodes_after a.core h) ≡ front ++ more → StandsFor b.core ((h ++ front) ++ plain (Stopped stop) ∷ []) → b.core.kept.undrained ≡ outs_with a h front
-  stopped-front front more stop q stands = quiet-outs (front ++ plain (Stopped stop) ∷ []) (subst (StandsFor b.core) (append_assoc h front (plain (Stopped stop) ∷ [])) stands) (push-no-drains front (plain (Stopped stop)) (quiet-front front more q) tt) ∙ stopped-outs front stop
+  -- a front of what is made before the drain
+  with-drain : (front back : List Entry) → unsettled a h ≡ front ++ back → entries ≡ front ++ (back ++ plain Drain ∷ [])
+  with-drain front back q = drain-is-last a h ∙ ap (λ (es : List Entry). es ++ plain Drain ∷ []) q ∙ append_assoc front back (plain Drain ∷ [])
+
+  quiet-front : (front back : List Entry) → unsettled a h ≡ front ++ back → AreNoDrains front
+  quiet-front front back q = front-no-drains front back (subst AreNoDrains q (quiet-before a h))
+
+  stopped-front : (front back : List Entry) (stop : Stop) → unsettled a h ≡ front ++ back → StandsFor b.core ((h ++ front) ++ plain (Stopped stop) ∷ []) → b.core.kept.undrained ≡ outs_with a h front
+  stopped-front front back stop q stands = quiet-outs (front ++ plain (Stopped stop) ∷ []) (subst (StandsFor b.core) (append_assoc h front (plain (Stopped stop) ∷ [])) stands) (push-no-drains front (plain (Stopped stop)) (quiet-front front back q) tt) ∙ stopped-outs front stop
 
   -- the core stopped on the way
-  pub stops-some : (stop : Stop) (outs : List Out) → outs ≡ b.core.kept.undrained → MakesSome a.core b.core h entries stop → HandsSome a h entries outs stop
-  stops-some (Limit node) outs is m = go m.back m.parts m.stops
-    where
-      go : (back : List Entry) → entries ≡ m.front ++ back → BeginsBeyond a.core.limit (nodes_in a.core) (h ++ m.front) back node → HandsSome a h entries outs (Limit node)
-      go [] parts beyond = absurd beyond
-      go (e ∷ back) parts beyond =
-          let r = not-all (before_drain (nodes_after a.core h)) m.front (plain Drain) e back (sym (drain-is-last (nodes_after a.core h)) ∙ parts) in
-          record { breaks = record { front = m.front; back = e ∷ back; parts = parts; within = m.within; beyond = beyond }; outs_are = is ∙ stopped-front m.front r.0 (Limit node) r.1 m.stands }
-  stops-some NoMemory outs is m = elim (front-or-all (before_drain (nodes_after a.core h)) m.front m.back (plain Drain) (sym (drain-is-last (nodes_after a.core h)) ∙ m.parts)) [
-    | inl all ↦ (
-      outs_with a h entries,
-      ap (λ (os : List Out). os ++ outs_with a h entries) (is ∙ left-behind (m.front ++ plain (Stopped NoMemory) ∷ []) (subst (StandsFor b.core) (append_assoc h m.front (plain (Stopped NoMemory) ∷ [])) m.stands)
-          ∙ ap (λ (es : List Entry). (reached_from trace here (es ++ plain (Stopped NoMemory) ∷ [])).undrained) all ∙ drained-stopped (before_drain (nodes_after a.core h)) NoMemory),
-    )
-    | inr more ↦ (
-      outputs_of trace (nodes_from (nodes_after a.core h) m.front) m.back,
-      ap (λ (os : List Out). os ++ outputs_of trace (nodes_from (nodes_after a.core h) m.front) m.back) (is ∙ stopped-front m.front more.0 NoMemory more.1 m.stands)
-          ∙ outs-more m.front m.back ∙ ap (λ (es : List Entry). outs_with a h es) (sym m.parts),
-    )
-  ]
+  pub stops-some : (stop : Stop) (outs : List Out) → outs ≡ b.core.kept.undrained → MakesSome a.core b.core h (unsettled a h) stop → HandsSome a h entries outs stop
+  stops-some (Limit node) outs is m = record {
+    breaks = record {
+      front = m.front;
+      back = m.back ++ plain Drain ∷ [];
+      parts = with-drain m.front m.back m.parts;
+      within = m.within;
+      beyond = stops-longer a.core.limit (nodes_in a.core) (h ++ m.front) m.back (plain Drain ∷ []) (Limit node) m.stops;
+    };
+    outs_are = is ∙ stopped-front m.front m.back (Limit node) m.parts m.stands;
+  }
+  stops-some NoMemory outs is m =
+      front-some m.front (m.back ++ plain Drain ∷ []) outs (with-drain m.front m.back m.parts) (is ∙ stopped-front m.front m.back NoMemory m.parts m.stands)
 
   -- a probe found no memory
-  pub lacks-some : (outs : List Out) → outs ≡ b.core.kept.undrained → MakesFront a b h entries → HandsSome a h entries outs NoMemory
-  lacks-some outs is m = elim (front-or-all (before_drain (nodes_after a.core h)) m.front m.back (plain Drain) (sym (drain-is-last (nodes_after a.core h)) ∙ m.parts)) [
-    | inl all ↦ (
-      outs_with a h entries,
-      ap (λ (os : List Out). os ++ outs_with a h entries) (is ∙ left-behind m.front m.stands.stands ∙ ap (λ (es : List Entry). (reached_from trace here es).undrained) all ∙ drained-behind (before_drain (nodes_after a.core h))),
-    )
-    | inr more ↦ (
-      outputs_of trace (nodes_from (nodes_after a.core h) m.front) m.back,
-      ap (λ (os : List Out). os ++ outputs_of trace (nodes_from (nodes_after a.core h) m.front) m.back) (is ∙ quiet-outs m.front m.stands.stands (quiet-front m.front more.0 more.1))
-          ∙ outs-more m.front m.back ∙ ap (λ (es : List Entry). outs_with a h es) (sym m.parts),
-    )
-  ]
+  pub lacks-some : (outs : List Out) → outs ≡ b.core.kept.undrained → MakesFront a b h (giving a h) → HandsSome a h entries outs NoMemory
+  lacks-some outs is m =
+      let work = working true a.core (h ++ giving a h) in
+      let parts : unsettled a h ≡ m.front ++ (m.back ++ work) = ap (λ (es : List Entry). es ++ work) m.parts ∙ append_assoc m.front m.back work in
+      front-some m.front ((m.back ++ work) ++ plain Drain ∷ []) outs (with-drain m.front (m.back ++ work) parts) (is ∙ quiet-outs m.front m.stands.stands (quiet-front m.front (m.back ++ work) parts))
 
 -- a hand that was on stops
 pub refuses-some : (before : Option Stop) (old mid : HandState) (stop : Stop) (outs : List Out) → before ≡ None → IsSettlingRefused before old mid stop → outs ≡ mid.core.kept.undrained → (h : List Entry) → HandStandsFor old h → HandsSome old h (settling old h) outs stop
@@ -207,12 +160,7 @@ module _ (form : Form) (old new : HandState) (outs slice : List Out) (stop : Opt
   nodes-of-lines = shown form old.core.plan.nodes slice
 
   some-front : (os : List Out) (s : Stop) → HandsSome old history (settling old history) os s → (others : List Out) × (os ++ others ≡ outs_with old history (settling old history))
-  some-front os (Limit node) some =
-      let b = some.breaks in (
-        outputs_of old.core.plan.trace (nodes_from (nodes_after old.core history) b.front) b.back,
-        ap (λ (xs : List Out). xs ++ outputs_of old.core.plan.trace (nodes_from (nodes_after old.core history) b.front) b.back) some.outs_are
-            ∙ outs-more old old history refl stood b.front b.back ∙ ap (λ (es : List Entry). outs_with old history es) (sym b.parts),
-      )
+  some-front os (Limit node) some = let b = some.breaks in front-some old old history refl stood b.front b.back os b.parts some.outs_are
   some-front os NoMemory some = some
 
   first-of : (s : Option Stop) → Settled old new outs s → (others : List Out) × (outs ++ others ≡ outs_with old history (settling old history))
