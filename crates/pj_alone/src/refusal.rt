@@ -17,7 +17,7 @@ pub fn write_refusal<K: Sink>(stop: &PlanStop, out: &mut K)
 {
     match stop {
         PlanStop::Unsafe { found } => {
-            let _ = write_lines(found.lines.as_slice(), out);
+            write_lines(found.lines.as_slice(), out);
         }
         PlanStop::File { .. } => write_status(b"", stop.status(), out),
         PlanStop::Refused { .. } => write_status(b"", stop.status(), out),

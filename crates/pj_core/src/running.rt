@@ -95,6 +95,7 @@ impl Core {
     ///
     /// `Limit` comes exactly where as many elements as may have arrived at a join or a group and this brings one more;
     /// `NoMemory` where memory could not be had. After a stop the core answers the same stop and changes nothing.
+    #[inline(always)]
     pub fn arrive(&mut self, stream: u32, element: Element) -> Result<(), Stop>
         requires there { stream < length (streams_of self.old.plan.nodes) }
         requires fits { FitsDomains (domains_of (stream_columns (streams_in self.old.plan.nodes) stream)) element }
@@ -241,6 +242,7 @@ impl Core {
     }
 
     // One sweep of an input of a join.
+    #[inline(always)]
     pub(crate) fn sweep_one(&mut self, join: u32, input: u32) -> Result<u64, Stop>
         requires on { self.old.kept.stop ≡ None }
         requires there { IsJoinInput self.old join input }

@@ -62,6 +62,7 @@ impl<S: Source> Feed<S> {
     /// all lines were judged; `None` is a line that was rejected. `ReadFault` comes only where the
     /// file's faults rose, `ByteLimit` only where it has 2^40 bytes or more. After an `Err` no further
     /// step can be made.
+    #[inline(always)]
     pub fn step(&mut self) -> Result<Option<Arrival>, IntakeStop>
         requires fed { IsFed self.old }
         requires open { self.old.is_open ≡ true }

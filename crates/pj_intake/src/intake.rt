@@ -131,6 +131,7 @@ impl<S: Source> Intake<S> {
     /// exactly where `limit` bytes were taken without the end having been read and no line feed is left; `NoMemory` leaves out
     /// the line for which memory could not be had, and nothing before it. `End` comes exactly where every line was judged, and
     /// again at every later call. After a stop every call gives the same stop, and what was judged stays.
+    #[inline(always)]
     pub fn next(&mut self) -> Result<Step, IntakeStop>
         requires at_end { KnowsEnd self.old.state.buffer (S.state self.old.source) }
         ensures columns { self.new.state.columns ≡ self.old.state.columns }

@@ -27,6 +27,7 @@ pub struct Counts {
 /// Writes the lines of what was handed out: of each element its canonical line, and of each row that a sweep removed a note
 /// with the names that the plan gives the join and the node that feeds the input. Counts the elements. `text` is where lines are
 /// made.
+#[inline(always)]
 pub fn write_outs<K: Sink>(
     alloc: Global,
     plan: &Plan,
@@ -50,6 +51,7 @@ pub fn write_outs<K: Sink>(
 }
 
 // Makes the line of one that was handed out.
+#[inline(always)]
 fn out_text(alloc: Global, plan: &Plan, handed: &Out, text: &mut Items<u8>) -> Result<(), NoMemory>
     ensures { OnOk result (text.new ≡ out_line plan.now.nodes handed.now) }
 {

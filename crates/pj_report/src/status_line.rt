@@ -58,8 +58,17 @@ pub fn write_status<K: Sink>(name: &[u8], status: Status, out: &mut K)
     };
 }
 
-/// Writes these lines, each by one `write_all`, and hands on what the sink holds back.
-pub fn write_lines<K: Sink>(lines: &[Bytes], out: &mut K) -> Result<(), Failed>
+/// Writes these lines, each by one `write_all`, and hands on what the sink holds back. Where that fails, no more is written.
+pub fn write_lines<K: Sink>(lines: &[Bytes], out: &mut K)
+    ensures told { IsTrue (K.state out.new).told → IsTrue (K.state out.old).told }
+    ensures lines { Delivered (flat lines.now) (K.state out.old) (K.state out.new) }
+    ensures handed_on { HandedOn (K.state out.old) (K.state out.new) }
+    ensures later { (K.state out.old).faults ≤ (K.state out.new).faults }
+{
+    let _ = deliver_lines(lines, out);
+}
+
+fn deliver_lines<K: Sink>(lines: &[Bytes], out: &mut K) -> Result<(), Failed>
     ensures told { IsTrue (K.state out.new).told → IsTrue (K.state out.old).told }
     ensures lines { Delivered (flat lines.now) (K.state out.old) (K.state out.new) }
     ensures handed_on { HandedOn (K.state out.old) (K.state out.new) }

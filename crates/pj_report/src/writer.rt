@@ -71,6 +71,7 @@ impl ResultWriter {
 
     /// Takes what was handed out, and writes the lines of it that are written as they come, each by a `write_all` of its own.
     /// `text` is where lines are made.
+    #[inline(always)]
     pub fn take<K: Sink>(
         &mut self,
         alloc: Global,

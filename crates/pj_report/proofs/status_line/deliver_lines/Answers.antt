@@ -1,7 +1,7 @@
 use Rattle.std.proofs.Common.{◌≡◌, ℕ, List, ◌++◌, subst, arith}
 use Rattle.pj_io.specs.Pieces.{GrewByLess}
 use Rattle.pj_report.proofs.StopLaws.{line_cut, line_more}
-use Rattle.pj_report.proofs.status_line.write_lines.Goals as goal
+use Rattle.pj_report.proofs.status_line.deliver_lines.Goals as goal
 
 pub returns-in_err-write_all-clause-lines : goal.returns-in_err-write_all-clause-lines
 returns-in_err-write_all-clause-lines g c = λ t.

@@ -1,6 +1,6 @@
 use Rattle.std.proofs.Common.{◌≡◌, ◌≤◌, ◌++◌, IsTrue, take}
 use Rattle.pj_report.specs.Written.{flat}
-use Rattle.pj_report.proofs.status_line.write_lines.Given as goal
+use Rattle.pj_report.proofs.status_line.deliver_lines.Given as goal
 
 abbrev pub invariant-loop-line : goal.invariant-loop-line
 invariant-loop-line g l = record {
