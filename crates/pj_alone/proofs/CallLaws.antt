@@ -24,7 +24,7 @@ use Rattle.pj_events.specs.declared.events.Stop.TheVariants.{Limit as CoreLimit,
 use Rattle.pj_script.specs.declared.step.ScriptStep.{ScriptStep}
 use Rattle.pj_alone.specs.Calls.{Call, fault_by, fault_or, file_names, first_by, first_file, job_if, job_of, job_with, operand, plan_bytes, steps_by, steps_or, stream_files, HasToldJob, HasToldPlan, IsTold, IsToldIn}
 use Rattle.pj_feed.specs.Named.{files_named, AreTold, IsAlone}
-use Rattle.pj_run.specs.Ends.{EndsBefore, EndsAtBytes, EndsAtLimit, EndsCut, EndsCutBefore, EndsCutRefused, EndsRefused, ArrivedOf}
+use Rattle.pj_run.specs.Ends.{EndsBefore, EndsAtBytes, EndsAtLimit, EndsCut, EndsCutBefore, EndsCutRefused, EndsRefused, ArrivedOf, EndsCutAtBytes}
 use Rattle.pj_feed.specs.Opened.{OpensFirst, AreReadToEnd, StayOutside}
 use Rattle.pj_report.specs.declared.writer.Form.{Form}
 use Rattle.pj_alone.specs.declared.calls.Options.{Options}
@@ -36,7 +36,7 @@ use Rattle.pj_report.specs.Report.{status_line}
 use Rattle.pj_run.specs.RunEnds.{FilesEnd, FilesCause, FilesOpened, IsFaultOf, IsLargeFile}
 use Rattle.pj_run.specs.Runs.{due_lines, job_by, refused_line, GoesBeyond, IsScriptOf}
 use Rattle.pj_run.specs.Stops.{core_status, files_status, run_line, run_status, stop_line, IsOfFew, IsStopTold}
-use Rattle.pj_alone.specs.Endings.{at_end, at_opening, in_run, ending_of, ComesAt, EarlyLeaves, FaultLeaves, IsScriptRead, KeepsLast, RunLeaves, StopLeaves, stop_name, limit_name}
+use Rattle.pj_alone.specs.Endings.{at_end, at_opening, in_run, ending_of, ComesAt, EarlyLeaves, FaultLeaves, IsScriptRead, KeepsLast, RunLeaves, StopLeaves, stop_name, limit_name, CutAtFault}
 use Rattle.pj_alone.specs.Promises.{Ends}
 use Rattle.pj_alone.specs.Top.{BeyondLimit, HasFault, IsBuilt, IsLineRefused, IsUnopened, IsTooLarge}
 use Rattle.pj_run.specs.Cuts.{files_cut, run_cut}
@@ -166,11 +166,26 @@ module _ (call : Call) (lead files : List (List ℕ)) (mid new : FolderState) (n
     later_rose first now after cause.0 more,
   )
 
-  -- a stream's turn could not be made, and then the output failed
-  cut_before : (stream : ℕ) (job : Job) (first now after : SinkState) → IsTrue after.told → EndsCutBefore job (files_named files mid) stream first.written now.written → Delivered [] now after
-      → EndsCutBefore job (stream_files call) stream first.written after.written
-  cut_before stream job first now after t ends line =
-      subst (EndsCutBefore job (stream_files call) stream first.written) (sym (same_after now after t line)) (subst (λ (fs : List (List ℕ)). EndsCutBefore job fs stream first.written now.written) files_are ends)
+  -- a read failed, and then the output
+  cut_before : (stream : ℕ) (job : Job) (first now after : SinkState) → IsTrue after.told → FilesEnd (Run (CutRead stream)) job files mid new first.written now.written → HasScript job → now.faults ≤ after.faults → Rose first.faults now.faults
+      → Delivered [] now after → CutAtFault (F + stream) job call new first after
+  cut_before stream job first now after t ends script more rose line = go (files_named files mid) files_are ends
+    where
+      go : (had : List (List ℕ)) → had ≡ stream_files call
+          → (ends : EndsCutBefore job had stream first.written now.written) × (IsAlone stream files → ArrivedOf job had stream (new.last (slice_index_or files stream [])) ends.front)
+          → CutAtFault (F + stream) job call new first after
+      go had same e =
+          let all = subst (λ (bytes : List ℕ). (ends : EndsCutBefore job (stream_files call) stream first.written bytes) × (IsAlone stream (file_names call) → ArrivedOf job (stream_files call) stream (new.last (operand call.names (F + stream))) ends.front))
+          (sym (same_after now after t line))
+          (subst (λ (fs : List (List ℕ)). (ends : EndsCutBefore job fs stream first.written now.written) × (IsAlone stream (file_names call) → ArrivedOf job fs stream (new.last (operand call.names (F + stream))) ends.front)) same
+          (e.0, λ d. subst (λ (n : List ℕ). ArrivedOf job had stream (new.last n) e.0.front) (sym (at_operand stream)) (e.1 (subst (IsAlone stream) (sym are) d)))) in
+          record { script = script; stream = stream; is = refl; ends = all.0; arrived = all.1; rose = later_rose first now after rose more }
+
+  -- a file gave too many bytes, and then the output failed
+  cut_large : (stream : ℕ) (job : Job) (first now after : SinkState) → IsTrue after.told → EndsCutAtBytes job (files_named files mid) stream first.written now.written → Delivered [] now after
+      → EndsCutAtBytes job (stream_files call) stream first.written after.written
+  cut_large stream job first now after t ends line =
+      subst (λ (bytes : List ℕ). EndsCutAtBytes job (stream_files call) stream first.written bytes) (sym (same_after now after t line)) (subst (λ (fs : List (List ℕ)). EndsCutAtBytes job fs stream first.written now.written) files_are ends)
 
   not_enabled : (line : ℕ) (job : Job) → AreTold files mid → (AreTold files mid → refused_line job (files_named files mid) ≡ Some line) → refused_line job (stream_files call) ≡ Some line
   not_enabled line job all cause = subst (λ (fs : List (List ℕ)). refused_line job fs ≡ Some line) files_are (cause all)
@@ -203,12 +218,12 @@ module _ (call : Call) (lead files : List (List ℕ)) (mid new : FolderState) (n
       earlier_rose (status_line [] (ScriptRefused line)) first now after le (subst (λ (x : List ℕ). Delivered (status_line x (ScriptRefused line)) now after) named written),
     ),
   )
-  stopped (CutRead stream) job name first now after t all named cause left ends le more line = inr (stream, refl, cut_before stream job first now after t ends line, later_rose first now after cause.0 more)
-  stopped (CutLarge stream) job name first now after t all named cause left ends le more line = inr (cut_before stream job first now after t ends line, later_rose first now after cause.0 more)
+  stopped (CutRead stream) job name first now after t all named cause left ends le more line = inr (cut_before stream job first now after t ends cause.2 more cause.0 line)
+  stopped (CutLarge stream) job name first now after t all named cause left ends le more line = inr (cause.2, cut_large stream job first now after t ends line, later_rose first now after cause.0 more)
   stopped (CutRefused line) job name first now after t all named cause left ends le more written = (
     not_enabled line job all cause.2,
     inr (
-      subst (EndsCutRefused job (stream_files call) first.written) (sym (same_after now after t written)) (subst (λ (fs : List (List ℕ)). EndsCutRefused job fs first.written now.written) files_are ends),
+      subst (λ (bytes : List ℕ). EndsCutRefused job (stream_files call) first.written bytes) (sym (same_after now after t written)) (subst (λ (fs : List (List ℕ)). EndsCutRefused job fs first.written now.written) files_are ends),
       later_rose first now after cause.0 more,
     ),
   )

@@ -49,7 +49,7 @@ use Rattle.pj_alone.specs.Made.{made_files, made_job, made_lines, IsMade, IsMemo
 use Rattle.pj_alone.specs.Promises.{Ends, KeepsAll, WritesResults}
 use Rattle.pj_alone.proofs.Completing.{completes_by}
 use Rattle.pj_alone.specs.Ready.{IsMakeReady, IsReadyFor}
-use Rattle.pj_alone.specs.Top.{AnswersRefusal, IsFit, IsPlayable, CanPlay, WriteFails}
+use Rattle.pj_alone.specs.Top.{AnswersRefusal, IsFit, IsPlayable, CanPlay, WriteFails, KeepsLimit}
 use Rattle.pj_alone.proofs.EarlyLaws.{IsOfPlan, of_plan}
 use Rattle.pj_alone.proofs.RunLaws.{earlier_rose, later_rose, same_after}
 use Rattle.pj_make_laws.proofs.Lengths.{made_files_are_short}
@@ -277,6 +277,10 @@ module _ (call : Call) (seed count : ℕ) (ready : IsMakeReady seed count call) 
   make_fits : IsFit call.task call
   make_fits = subst (λ t. IsFit t call) (sym ready.task) tt
 
+  -- no limit is asked for
+  make_limit : KeepsLimit call.task call
+  make_limit = subst (λ t. KeepsLimit t call) (sym ready.task) tt
+
   -- no script is played
   make_plays : IsPlayable call
   make_plays = subst (λ (script : Option (List ℕ)). CanPlay script call) (sym ready.bare) tt
@@ -317,7 +321,7 @@ module _ (call : Call) (seed count : ℕ) (ready : IsMakeReady seed count call) 
         never_retracted = λ writes. absurd (subst WritesResults ready.task writes);
         whole_lines = λ runs. absurd (make_never_runs runs);
         handed_on = (handed, all_handed);
-        cause_of_done = λ _. (make_fits, make_plays);
+        cause_of_done = λ _. (make_fits, make_plays, make_limit);
         cause_of_usage = λ is. absurd (never Usage is tt);
         usage = λ none. absurd (false≢true (sym makes_something ∙ none));
         cause_of_plan_limit = λ is. absurd (never (Limit Plan) is tt);

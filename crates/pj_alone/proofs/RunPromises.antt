@@ -15,14 +15,14 @@ use Rattle.pj_run.specs.declared.stops.FilesStop.TheVariants.{Opening}
 use Rattle.pj_run.specs.Cuts.{files_cut}
 use Rattle.pj_run.specs.Jobs.{Job}
 use Rattle.pj_run.specs.RunEnds.{FilesCause, FilesEnd, FilesOpened}
-use Rattle.pj_run.specs.Runs.{IsAnswer, ArePunctuations, AreLawful, AreTallies, IsEnabled, due_lines, due_where, job_by, outputs_of, report_of, run_lines}
+use Rattle.pj_run.specs.Runs.{IsAnswer, ArePunctuations, AreLawful, AreTallies, IsEnabled, due_lines, due_where, job_by, outputs_of, report_of, run_lines, StaysInLimit}
 use Rattle.pj_run.specs.Stops.{files_status, stop_line, IsStopTold}
 use Rattle.pj_run.specs.Whole.{LeavesWhole}
 use Rattle.pj_run.proofs.OutputLaws.{outputs_lawful, outputs_answer, outputs_puncts}
 use Rattle.pj_run.proofs.Planned.{IsPlanned, new_planned}
 use Rattle.pj_script.specs.declared.step.ScriptStep.{ScriptStep}
 use Rattle.pj_alone.specs.declared.calls.Prepared.{Prepared}
-use Rattle.pj_alone.specs.Calls.{making, running, is_nothing, leading, script_names, Call, file_names, first_file, job_of, operand, script_fault, stream_files, takes_plan, HasToldJob, IsTold, IsToldIn}
+use Rattle.pj_alone.specs.Calls.{making, running, is_nothing, leading, script_names, Call, file_names, first_file, job_of, operand, script_fault, stream_files, takes_plan, HasToldJob, IsTold, IsToldIn, Task}
 use Rattle.pj_alone.specs.Endings.{ending_of, stop_name, AreSteps, IsScriptRead}
 use Rattle.pj_alone.specs.Plans.{outline_in}
 use Rattle.pj_alone.specs.Promises.{KeepsAll}
@@ -30,7 +30,7 @@ use Rattle.pj_alone.specs.Scripts.{HasSteps, IsPrepared, IsSetUp, ReadsScript, S
 use Rattle.pj_io.specs.Folders.{NoneFalls}
 use Rattle.pj_feed.proofs.Names.{same_or_other}
 use Rattle.pj_feed.proofs.Outside.{stay_then, stay_wider}
-use Rattle.pj_alone.specs.Top.{AnswersScript, IsBuilt, IsFit, CanPlay, RefusesScript}
+use Rattle.pj_alone.specs.Top.{AnswersScript, IsBuilt, IsFit, CanPlay, RefusesScript, KeepsLimit}
 use Rattle.pj_alone.proofs.CallLaws.{all_read, are_steps, beyond, built, ended_done, ended_stop, faulted, files_same, files_told, job_read, line_refused, none_refused, stop_handed, steps_are, told_named, too_large, unopened, write_failed}
 use Rattle.pj_alone.proofs.Completing.{completes_by}
 use Rattle.pj_alone.proofs.EarlyLaws.{answers_built, no_refusal, stop_never, IsNoStop}
@@ -188,9 +188,13 @@ module _ (call : Call) (ready : Prepared) (steps : Option (List (ℕ × ScriptSt
 
   -- ---- the run is done
 
-  pub keeps_done : (first now : SinkState) → (AreTold files mid → IsTrue now.told → now.written ≡ first.written ++ flat (due_lines job fs)) → (AreTold files mid → IsEnabled job fs) → AreReadToEnd files mid new
+  -- within its limit
+  stays_in : (IsTold call → StaysInLimit job (stream_files call)) → KeepsLimit call.task call
+  stays_in within = subst (λ (t : Task). KeepsLimit t call) (sym is_built.form) (λ all. (job, read_all all, within all))
+
+  pub keeps_done : (first now : SinkState) → (AreTold files mid → IsTrue now.told → now.written ≡ first.written ++ flat (due_lines job fs)) → (AreTold files mid → IsEnabled job fs) → (AreTold files mid → StaysInLimit job fs) → AreReadToEnd files mid new
       → ((name : List ℕ) → IsTrue (mid.told name) → IsReadToEnd name mid mid → IsReadToEnd name mid new) → OpensFirst (length files) files mid new → StayOutside files mid new → now.held ≡ [] → KeepsAll (ending_of call Done new first now)
-  keeps_done first now written enabled last keeps opened stay held =
+  keeps_done first now written enabled within last keeps opened stay held =
       let lines : AreTold files mid → IsTrue now.told → now.written ≡ first.written ++ flat (run_lines job fs) =
       (λ all t. subst (λ (refused : Option ℕ). now.written ≡ first.written ++ flat (due_where refused job fs)) (enabled all) (written all t)) in
       let goes_on : AreTold (file_names call) call.folder → IsEnabled job (stream_files call) =
@@ -208,7 +212,7 @@ module _ (call : Call) (ready : Prepared) (steps : Option (List (ℕ × ScriptSt
         never_retracted = λ _ all t. never_done job call first.written now.written (is_ready all) (lines (told all) t ∙ ap (λ (bytes : List (List ℕ)). first.written ++ flat (run_lines job bytes)) same);
         whole_lines = λ _ is. absurd (cc);
         handed_on = (inl held, λ _. held);
-        cause_of_done = λ _. (fits, plays call.script refl s.steps goes_on);
+        cause_of_done = λ _. (fits, plays call.script refl s.steps goes_on, stays_in (λ all. subst (λ (bytes : List (List ℕ)). StaysInLimit job bytes) same (within (told all))));
         cause_of_usage = λ is. absurd (cc);
         usage = λ none. absurd (false≢true (sym (ap is_nothing is_built.form) ∙ none));
         cause_of_plan_limit = λ is. absurd (cc);

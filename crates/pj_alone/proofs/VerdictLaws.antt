@@ -22,7 +22,7 @@ use Rattle.pj_alone.specs.declared.calls.Ready.TheVariants.{Run, Check}
 use Rattle.pj_alone.specs.Ready.{IsCheckReady, IsReadyFor, IsRunReady}
 use Rattle.pj_alone.specs.Refusals.{HasStreams, IsRefused, Refuses}
 use Rattle.pj_alone.specs.Stops.{verdict_status}
-use Rattle.pj_alone.specs.Top.{AnswersRefusal, IsFit, IsPlayable, CanPlay, WriteFails}
+use Rattle.pj_alone.specs.Top.{AnswersRefusal, IsFit, IsPlayable, CanPlay, WriteFails, KeepsLimit}
 use Rattle.pj_report.specs.declared.status.LimitOf.TheVariants.{Plan, Script, Node, File}
 use Rattle.pj_alone.proofs.EarlyLaws.{IsOfPlan, of_plan, asked_by, fit_never, is_unfit, refused_alone}
 use Rattle.pj_alone.proofs.Refusing.{read_as}
@@ -130,6 +130,9 @@ module _ (call : Call) (print : Bool) (plan : Outline) (ready : IsCheckReady pla
   plays : IsPlayable call
   plays = subst (λ (script : Option (List ℕ)). CanPlay script call) (sym ready.bare) tt
 
+  no_limit : KeepsLimit call.task call
+  no_limit = subst (λ t. KeepsLimit t call) (sym ready.task) tt
+
   done_fits : (status : Status) → VerdictLeaves status print plan first after → status ≡ Done → IsFit call.task call
   done_fits status v is = let w = subst (λ (s : Status). VerdictLeaves s print plan first after) is v in safe_fits w.0
 
@@ -193,7 +196,7 @@ module _ (call : Call) (print : Bool) (plan : Outline) (ready : IsCheckReady pla
         never_retracted = λ writes. absurd (subst WritesResults ready.task writes);
         whole_lines = λ runs. absurd (never_runs runs);
         handed_on = (handed, all_handed);
-        cause_of_done = λ is. (done_fits status v is, plays);
+        cause_of_done = λ is. (done_fits status v is, plays, no_limit);
         cause_of_usage = λ is. absurd (never Usage is tt);
         usage = λ none. absurd (false≢true (sym is_something ∙ none));
         cause_of_plan_limit = λ is. absurd (never (Limit Plan) is tt);

@@ -20,8 +20,8 @@ use Rattle.pj_report.specs.declared.status.LimitOf.{LimitOf}
 use Rattle.pj_report.specs.declared.status.LimitOf.TheVariants.{Plan, Script, Node, File}
 use Rattle.pj_report.specs.Report.{status_line}
 use Rattle.pj_report.specs.Written.{flat, WholeLines, FrontOf, Delivered}
-use Rattle.pj_run.specs.Ends.{EndsBefore, EndsAtBytes, EndsAtLimit, EndsCut, EndsCutBefore, EndsCutRefused, EndsRefused, ArrivedOf}
-use Rattle.pj_run.specs.Jobs.{Job}
+use Rattle.pj_run.specs.Ends.{EndsBefore, EndsAtBytes, EndsAtLimit, EndsCut, EndsCutBefore, EndsCutRefused, EndsRefused, ArrivedOf, EndsCutAtBytes}
+use Rattle.pj_run.specs.Jobs.{Job, HasScript}
 use Rattle.pj_run.specs.Runs.{due_lines, refused_line}
 use Rattle.pj_run.specs.Whole.{WroteLines}
 use Rattle.pj_alone.specs.Calls.{checking, making, running, Call, first_file, job_of, script_fault, HasToldJob, IsTold, HasToldPlan, operand, file_names, plan_bytes, stream_files}
@@ -191,17 +191,22 @@ LimitLeaves job files (Node node) before bytes = EndsAtLimit job files node befo
 LimitLeaves job files (File stream) before bytes = EndsAtBytes job files stream before bytes
 
 -- the output failed while the lines up to the step that goes beyond a node's limit, or up to the turn of a file that is too large, were
--- written: a front of them was, and no more
+-- written: a front of them was, and no more; the latter only of a script
 abbrev pub CutAtLimit : LimitOf → Job → Call → SinkState → SinkState → Type 0
 CutAtLimit Plan job call old new = ⊥
 CutAtLimit Script job call old new = ⊥
-CutAtLimit (File stream) job call old new = EndsCutBefore job (stream_files call) stream old.written new.written × Rose old.faults new.faults
+CutAtLimit (File stream) job call old new = HasScript job × EndsCutAtBytes job (stream_files call) stream old.written new.written × Rose old.faults new.faults
 CutAtLimit (Node node) job call old new = EndsCut job (stream_files call) node old.written new.written × Rose old.faults new.faults
 
--- it failed while the lines up to the turn of this operand's stream were written, of which a read failed
-abbrev pub CutAtFault : ℕ → Job → Call → SinkState → SinkState → Type 0
-CutAtFault n job call old new =
-    (stream : ℕ) × (n ≡ first_file call + stream) × EndsCutBefore job (stream_files call) stream old.written new.written × Rose old.faults new.faults
+-- it failed while the lines up to the turn of this operand's stream were written, of which a read failed, and no line of it was lost or
+-- made up; only a script makes more steps before it writes
+pub record CutAtFault (n : ℕ) (job : Job) (call : Call) (after : FolderState) (old new : SinkState) : Type 0 where
+  pub script : HasScript job
+  pub stream : ℕ
+  pub is : n ≡ first_file call + stream
+  pub ends : EndsCutBefore job (stream_files call) stream old.written new.written
+  pub arrived : IsAlone stream (file_names call) → ArrivedOf job (stream_files call) stream (after.last (operand call.names n)) ends.front
+  pub rose : Rose old.faults new.faults
 
 -- it failed while the lines up to a step were written that is not enabled
 abbrev pub CutAtStep : Job → Call → SinkState → SinkState → Type 0
@@ -225,7 +230,7 @@ StopLeaves (ScriptRefused line) job call after old new =
     × (((bytes : List ℕ) × EndsRefused job (stream_files call) old.written bytes × Left bytes (status_line [] (ScriptRefused line)) old new) ⊎ CutAtStep job call old new)
 StopLeaves (OpenFault n) job call after old new = ⊥
 StopLeaves (ReadFault n) job call after old new =
-    ((bytes : List ℕ) × FaultLeaves job call after n old.written bytes × Left bytes (status_line [] (ReadFault n)) old new) ⊎ CutAtFault n job call old new
+    ((bytes : List ℕ) × FaultLeaves job call after n old.written bytes × Left bytes (status_line [] (ReadFault n)) old new) ⊎ CutAtFault n job call after old new
 StopLeaves WriteFault job call after old new = FrontOf (flat (due_lines job (stream_files call))) old.written new.written
 StopLeaves NoMemory job call after old new =
     ((bytes : List ℕ) × WholeLines (due_lines job (stream_files call)) old.written bytes × Left bytes (status_line [] NoMemory) old new) ⊎ CutRun job call old new

@@ -12,7 +12,7 @@ use Rattle.pj_alone.specs.Completeness.{Completes}
 use Rattle.pj_alone.specs.Endings.{Ending, EndsAt, MemoryLeaves, Stage}
 use Rattle.pj_alone.specs.Made.{IsMade}
 use Rattle.pj_alone.specs.Refusals.{IsRefused}
-use Rattle.pj_alone.specs.Top.{AnswersRefusal, AnswersScript, BeyondLimit, HasFault, IsFit, IsLineRefused, IsPlayable, IsScriptTooLong, IsTooLarge, IsUnopened, NeverRetracted, OneThreadBytes, Ran, WriteFails}
+use Rattle.pj_alone.specs.Top.{AnswersRefusal, AnswersScript, BeyondLimit, HasFault, IsFit, IsLineRefused, IsPlayable, IsScriptTooLong, IsTooLarge, IsUnopened, NeverRetracted, OneThreadBytes, Ran, WriteFails, KeepsLimit}
 
 -- ---- a run that is done
 
@@ -73,7 +73,7 @@ HandsOn e = HandedOn e.old e.new × (e.status ≡ Done → e.new.held ≡ [])
 -- ---- when each status comes
 
 abbrev pub IsRightlyDone : Ending → Type 0
-IsRightlyDone e = e.status ≡ Done → IsFit e.call.task e.call × IsPlayable e.call
+IsRightlyDone e = e.status ≡ Done → IsFit e.call.task e.call × IsPlayable e.call × KeepsLimit e.call.task e.call
 
 abbrev pub IsRightUsage : Ending → Type 0
 IsRightUsage e = e.status ≡ Usage → is_nothing e.call.task ≡ true

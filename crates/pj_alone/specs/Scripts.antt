@@ -10,8 +10,9 @@ use Rattle.pj_alone.specs.declared.calls.Prepared.{Prepared}
 use Rattle.pj_alone.specs.declared.stops.FileStop.TheVariants.{OpenFault as NotOpened, ReadFault as NotRead, TooLong, NoMemory as FileMemory}
 use Rattle.pj_alone.specs.declared.stops.StepsStop.{StepsStop}
 use Rattle.pj_alone.specs.declared.stops.StepsStop.TheVariants.{File, Refused, NoMemory}
-use Rattle.pj_alone.specs.Calls.{leading, script_names, Call, HasReadPlan, HasToldPlan, operand}
+use Rattle.pj_alone.specs.Calls.{call_for, file_names, leading, script_names, Call, HasReadPlan, HasToldPlan, operand}
 use Rattle.pj_alone.specs.Ready.{IsRunReady}
+use Rattle.pj_words.specs.declared.request.Request.{Request}
 
 -- ---- the steps
 
@@ -80,3 +81,11 @@ pub record IsSetUp (ready : Prepared) (script : Option (List (ℕ × ScriptStep)
   pub opened : OpensFirst (length (leading (operand call.names 1) call.script)) (leading (operand call.names 1) call.script) call.folder now
   pub others : StayOutside (leading (operand call.names 1) call.script) call.folder now
   pub later : NoneFalls call.folder.faults now.faults
+
+-- whichever folder a call met that has come so far, this holds of the call
+abbrev pub WherePrepared : Prepared → Request → FolderState → (Call → Type 0) → Type 0
+WherePrepared ready request now Holds = (first : FolderState) → IsPrepared ready (call_for request first) now → Holds (call_for request first)
+
+-- the same, once its script was read
+abbrev pub WhereSetUp : Prepared → Option (List (ℕ × ScriptStep)) → List (List ℕ) → FolderState → (Call → Type 0) → Type 0
+WhereSetUp ready script files now Holds = (call : Call) → IsSetUp ready script call now → files ≡ file_names call → Holds call

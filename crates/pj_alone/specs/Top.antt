@@ -20,7 +20,7 @@ use Rattle.pj_alone.specs.Refusals.{Refuses}
 use Rattle.pj_report.specs.Forms.{form_lines}
 use Rattle.pj_files.specs.Staying.{StaysRight}
 use Rattle.pj_run.specs.Jobs.{Job}
-use Rattle.pj_run.specs.Runs.{outs_of, refused_line, run_lines, GoesBeyond, IsEnabled}
+use Rattle.pj_run.specs.Runs.{outs_of, refused_line, run_lines, GoesBeyond, IsEnabled, StaysInLimit}
 use Rattle.pj_report.specs.Written.{flat, Spells}
 
 -- ---- a run that is done
@@ -72,6 +72,13 @@ CanPlay (Some name) call =
 
 abbrev pub IsPlayable : Call → Type 0
 IsPlayable call = CanPlay call.script call
+
+-- where the call is told: no entry of the history that it runs brings an element beyond its limit
+abbrev pub KeepsLimit : Task → Call → Type 0
+KeepsLimit nothing call = ⊤
+KeepsLimit running call = IsTold call → (job : Job) × (job_of call ≡ Some job) × StaysInLimit job (stream_files call)
+KeepsLimit (checking print) call = ⊤
+KeepsLimit (making seed count) call = ⊤
 
 -- ---- what was written stays right
 

@@ -5,7 +5,7 @@ ghost use Rattle.pj_plan.specs.Nodes.{streams_in};
 ghost use Rattle.pj_alone.specs.Calls.{call_for, file_names, Call};
 ghost use Rattle.pj_alone.specs.Endings.{ending_of, stream_name as name_of_stream, stop_name as stop_name_of};
 ghost use Rattle.pj_alone.specs.Promises.{KeepsAll};
-ghost use Rattle.pj_alone.specs.Scripts.{first_behind, IsPrepared, IsSetUp};
+ghost use Rattle.pj_alone.specs.Scripts.{first_behind, IsPrepared, IsSetUp, WherePrepared, WhereSetUp};
 
 use crate::calls::{Prepared, files_in};
 use crate::script::read_steps;
@@ -29,7 +29,7 @@ pub fn write_run<F: Folder, K: Sink>(
     out: &mut K,
 ) -> Status
     requires { (first : FolderState) × IsPrepared ready (call_for request.now first) (F.state folder.old) }
-    ensures { (first : FolderState) → IsPrepared ready (call_for request.now first) (F.state folder.old) → KeepsAll (ending_of (call_for request.now first) result (F.state folder.new) (K.state out.old) (K.state out.new)) }
+    ensures { WherePrepared ready request.now (F.state folder.old) (λ call. KeepsAll (ending_of call result (F.state folder.new) (K.state out.old) (K.state out.new))) }
 {
     match read_steps(alloc, request, ready.core.plan(), folder) {
         Ok(script) => write_files(alloc, ready, &script, files_in(request), folder, out),
@@ -51,7 +51,7 @@ fn write_files<F: Folder, K: Sink>(
     out: &mut K,
 ) -> Status
     requires { (call : Call) × IsSetUp ready script.now call (F.state folder.old) × (files.now ≡ file_names call) }
-    ensures { (call : Call) → IsSetUp ready script.now call (F.state folder.old) → files.now ≡ file_names call → KeepsAll (ending_of call result (F.state folder.new) (K.state out.old) (K.state out.new)) }
+    ensures { WhereSetUp ready script.now files.now (F.state folder.old) (λ call. KeepsAll (ending_of call result (F.state folder.new) (K.state out.old) (K.state out.new))) }
 {
     let first = first_operand(script);
     let Prepared { core, writing } = ready;

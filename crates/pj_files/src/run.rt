@@ -3,14 +3,14 @@ ghost use Rattle.std.specs.Prelude.{◌≡◌, ◌≤◌, [], length, IsTrue, If
 ghost use Rattle.pj_plan.specs.Nodes.{streams_in};
 ghost use Rattle.pj_io.specs.Folders.{NoneFalls, SameEverywhere};
 ghost use Rattle.pj_core.specs.Cores.{StandsFor};
-ghost use Rattle.pj_feed.specs.Feeds.{AreFeeds, AreNew, AreSameFeeds, AllTold, AreAllTaken, files_of, tallies_in};
+ghost use Rattle.pj_feed.specs.Feeds.{AreFeeds, AreNew, AreSameFeeds, AllTold, AreAllTaken, files_of};
 ghost use Rattle.pj_feed.specs.Named.{AreTold, files_named};
 ghost use Rattle.pj_feed.specs.Opened.{AreOpened, AreReadToEnd, StayOutside, StayReadToEnd, names_in};
 ghost use Rattle.pj_run.specs.Cuts.{files_cut, run_cut};
-ghost use Rattle.pj_run.specs.Outcome.{IsOutcome};
 ghost use Rattle.pj_run.specs.RunEnds.{AreRead, FeedsCause, FeedsWrite, FilesCause, FilesOpened, FilesWrite, StoppedFeeds, StoppedFiles, StoppedTurns, TurnsCause, TurnsWrite};
-ghost use Rattle.pj_run.specs.Runs.{IsEnabled, IsNewCore, IsScriptOf, due_lines, history_of, job_by};
+ghost use Rattle.pj_run.specs.Runs.{IsEnabled, IsNewCore, IsScriptOf, due_lines, history_of, job_by, StaysInLimit};
 ghost use Rattle.pj_run.specs.Whole.{HasTaken, WritesWhole};
+ghost use Rattle.pj_run.specs.Outcome.{TurnsGather};
 
 use pj_core::Core;
 use pj_feed::{Feed, Feeds, OpeningStop, close_feeds, open_feeds};
@@ -61,6 +61,7 @@ pub fn run_files<F: Folder, K: Sink>(
     ensures whole { WritesWhole files_cut (K.state out.old) (K.state out.new) result.ended }
     ensures ends { StoppedFiles (job_by script.now writing core) names.now (F.state folder.old) (F.state folder.new) (K.state out.old) (K.state out.new) result.ended }
     ensures enabled { AreTold names.now (F.state folder.old) → OnOk result.ended (IsEnabled (job_by script.now writing core) (files_named names.now (F.state folder.old))) }
+    ensures within { AreTold names.now (F.state folder.old) → OnOk result.ended (StaysInLimit (job_by script.now writing core) (files_named names.now (F.state folder.old))) }
     ensures unopened { (stop : OpeningStop) → result.ended ≡ Err (FilesStop.Opening stop) → out.new ≡ out.old }
     ensures last { OnOk result.ended (AreReadToEnd names.now (F.state folder.old) (F.state folder.new)) }
     ensures keeps { StayReadToEnd (F.state folder.old) (F.state folder.new) result.ended }
@@ -126,6 +127,7 @@ fn run_feeds<F: Folder, K: Sink>(
     ensures whole { WritesWhole run_cut (K.state out.old) (K.state out.new) result.ended }
     ensures ends { StoppedFeeds (job_by script.now writing core) feeds.items (F.state folder.old) (F.state folder.new) (K.state out.old) (K.state out.new) result.ended }
     ensures enabled { AllTold feeds.items → OnOk result.ended (IsEnabled (job_by script.now writing core) (files_of feeds.items)) }
+    ensures within { AllTold feeds.items → OnOk result.ended (StaysInLimit (job_by script.now writing core) (files_of feeds.items)) }
     ensures handed_on { OnOk result.ended ((K.state out.new).held ≡ []) }
     ensures last { OnOk result.ended (AreRead feeds.items (F.state folder.old) (F.state folder.new)) }
     ensures causes { IfErr result.ended (λ stop. FeedsCause stop (job_by script.now writing core) feeds.items (F.state folder.old) (F.state folder.new) (K.state out.old) (K.state out.new)) }
@@ -193,8 +195,9 @@ fn make_turns<S: Source, K: Sink>(
     ensures lines { TurnsWrite (job_by script.now writing core) feeds.old.feeds.items (K.state out.old) (K.state out.new) result.ended }
     ensures whole { WritesWhole run_cut (K.state out.old) (K.state out.new) result.ended }
     ensures ends { StoppedTurns (job_by script.now writing core) feeds.old.feeds.items feeds.new.feeds.items (K.state out.old) (K.state out.new) result.ended }
-    ensures outcome { AllTold feeds.old.feeds.items → IfOk result.ended (λ gathered. IsOutcome (job_by script.now writing core) (files_of feeds.old.feeds.items) (tallies_in feeds.new.feeds.items) gathered) }
+    ensures outcome { TurnsGather (job_by script.now writing core) feeds.old.feeds.items feeds.new.feeds.items result.ended }
     ensures enabled { AllTold feeds.old.feeds.items → OnOk result.ended (IsEnabled (job_by script.now writing core) (files_of feeds.old.feeds.items)) }
+    ensures within { AllTold feeds.old.feeds.items → OnOk result.ended (StaysInLimit (job_by script.now writing core) (files_of feeds.old.feeds.items)) }
     ensures stands { AllTold feeds.old.feeds.items → OnOk result.ended (StandsFor result.core (history_of (job_by script.now writing core) (files_of feeds.old.feeds.items))) }
     ensures taken { OnOk result.ended (AreAllTaken feeds.new.feeds.items) }
     ensures has_taken { IfOk result.ended (λ gathered. HasTaken writing.form gathered.results) }

@@ -19,7 +19,7 @@ use Rattle.pj_report.proofs.Forms.{shown-append, shown-nil}
 use Rattle.pj_report.proofs.LinesWritten.{first_written, stop_among, stop_then, written_then}
 use Rattle.pj_run.specs.declared.stops.RunStop.TheVariants.{ReadFault, TooLarge, Limit, Refused, WriteFailed, NoMemory, Cut as RunCut, CutRead, CutLarge, CutRefused}
 use Rattle.pj_run.specs.Ends.{EndsBefore, EndsCutBefore, lines_until}
-use Rattle.pj_run.specs.Runs.{run_nodes}
+use Rattle.pj_run.specs.Runs.{run_nodes, StaysInLimit}
 use Rattle.pj_run.specs.declared.stops.RunStop.{RunStop}
 use Rattle.pj_run.specs.PlanNames.{HasShortNames}
 use Rattle.pj_run.specs.Whole.{WroteLines}
@@ -28,6 +28,7 @@ use Rattle.pj_run.specs.Goes.{RunStart, whole_of}
 use Rattle.pj_replay.specs.Playing.{Stage}
 use Rattle.pj_replay.specs.Plays.{ArrivesNext, HasLeft, HasStopped, IsWholeSoFar, StopsReplay, StopsStanding, is_over, left_of}
 use Rattle.pj_run.proofs.Going.{shown_until}
+use Rattle.pj_events.specs.Limits.{StaysWithin}
 
 -- nothing more is written
 pub over-stops : (stop : RunStop) (run : RunStart) (s : Stage) → is_over stop ≡ true → HasStopped stop run s → StopsReplay stop run s.feeds s.sink
@@ -115,13 +116,17 @@ module _ (run : RunStart) (s : Stage) (sink' : SinkState) (written : Result (Uni
     memory-left : written ≡ Err WriteMemory → StopsReplay NoMemory run s.feeds sink'
     memory-left is = record { same = k.same; lines = part-left WriteMemory is; whole = part-whole is; ends = λ told t. tt; causes = tt }
 
+    -- where the front is the whole, it goes beyond no limit
+    whole-within : whole_of run ≡ st.front → StaysInLimit run.job (files_of run.feeds)
+    whole-within is = subst (λ (h : List Entry). StaysWithin run.job.limit (run_nodes run.job) [] h) (sym is) st.within
+
     -- the turn of a stream that could not be made
     before-turn : (stream : ℕ) → written ≡ Ok tt → IsTrue sink'.told → ArrivesNext run st.front stream → EndsBefore run.job (files_of run.feeds) stream run.sink.written sink'.written
-    before-turn stream is t next = record { front = st.front; next = next.next; back = next.back; run = next.is; element = next.element; turn = next.turn; written = all-written is t }
+    before-turn stream is t next = record { front = st.front; next = next.next; back = next.back; run = next.is; element = next.element; turn = next.turn; within = st.within; written = all-written is t }
 
     -- a front of the lines until then was written
     cut-before : (stream : ℕ) → written ≡ Err Failed → IsTrue sink'.told → ArrivesNext run st.front stream → EndsCutBefore run.job (files_of run.feeds) stream run.sink.written sink'.written
-    cut-before stream is t next = record { front = st.front; next = next.next; back = next.back; run = next.is; element = next.element; turn = next.turn; written = front-left is t }
+    cut-before stream is t next = record { front = st.front; next = next.next; back = next.back; run = next.is; element = next.element; turn = next.turn; within = st.within; written = front-left is t }
 
   -- a drain found no memory, and no line is left
   module _ (k : HasStopped NoMemory run s) (drained : s.hand.core.kept.undrained ≡ []) (first : HasLeft between run s.sink) where
@@ -156,19 +161,25 @@ module _ (run : RunStart) (s : Stage) (sink' : SinkState) (written : Result (Uni
   memory-stops k (inr d) (Err WriteMemory) is = short-stops k d.0 d.1
 
   pub drained-stops : (stop : RunStop) → is_over stop ≡ false → HasStopped stop run s → (w : Result (Unit {0}) WriteStop) → written ≡ w → StopsReplay (left_of stop w) run s.feeds sink'
-  unfolding before-turn
+  unfolding before-turn cut-before
   drained-stops (Refused line) over k (Ok u) is = record {
     same = k.same;
     lines = all-left (Refused line) k k.stops is between;
     whole = all-whole (Refused line) k k.stops is;
-    ends = λ told t. all-written (Refused line) k k.stops is t ∙ ap (λ (h : List Entry). run.sink.written ++ lines_until run.job h) (sym (k.stops.behind told).0);
+    ends = λ told t. (
+      whole-within (Refused line) k k.stops (k.stops.behind told).0,
+      all-written (Refused line) k k.stops is t ∙ ap (λ (h : List Entry). run.sink.written ++ lines_until run.job h) (sym (k.stops.behind told).0),
+    );
     causes = k.cause;
   }
   drained-stops (Refused line) over k (Err Failed) is = record {
     same = k.same;
     lines = part-left (Refused line) k k.stops Failed is;
     whole = λ names t. tt;
-    ends = λ told t. subst (λ (h : List Entry). FrontOf (lines_until run.job h) run.sink.written sink'.written) (sym (k.stops.behind told).0) (front-left (Refused line) k k.stops is t);
+    ends = λ told t. (
+      whole-within (Refused line) k k.stops (k.stops.behind told).0,
+      subst (λ (h : List Entry). FrontOf (lines_until run.job h) run.sink.written sink'.written) (sym (k.stops.behind told).0) (front-left (Refused line) k k.stops is t),
+    );
     causes = (rose (Refused line) k k.stops is, k.cause.0, k.cause.1);
   }
   drained-stops (Refused line) over k (Err WriteMemory) is = memory-left (Refused line) k k.stops is
@@ -183,8 +194,8 @@ module _ (run : RunStart) (s : Stage) (sink' : SinkState) (written : Result (Uni
     same = k.same;
     lines = part-left (ReadFault stream) k k.stops Failed is;
     whole = λ names t. tt;
-    ends = λ told t. cut-before (ReadFault stream) k k.stops stream is t (k.stops.behind told).0;
-    causes = (rose (ReadFault stream) k k.stops is, k.cause.0, k.cause.1, k.cause.2);
+    ends = λ told t. let b = k.stops.behind told in (b.1, b.2, cut-before (ReadFault stream) k k.stops stream is t b.0, b.3);
+    causes = (rose (ReadFault stream) k k.stops is, k.cause.0, k.cause.1, k.cause.2, k.stops.script);
   }
   drained-stops (ReadFault stream) over k (Err WriteMemory) is = memory-left (ReadFault stream) k k.stops is
   drained-stops (TooLarge stream) over k (Ok u) is = record {
@@ -198,8 +209,8 @@ module _ (run : RunStart) (s : Stage) (sink' : SinkState) (written : Result (Uni
     same = k.same;
     lines = part-left (TooLarge stream) k k.stops Failed is;
     whole = λ names t. tt;
-    ends = λ told t. cut-before (TooLarge stream) k k.stops stream is t (k.stops.behind told).0;
-    causes = (rose (TooLarge stream) k k.stops is, k.cause.0, k.cause.1, k.cause.2);
+    ends = λ told t. let b = k.stops.behind told in (cut-before (TooLarge stream) k k.stops stream is t b.0, b.1);
+    causes = (rose (TooLarge stream) k k.stops is, k.cause.0, k.cause.1, k.cause.2, k.stops.script);
   }
   drained-stops (TooLarge stream) over k (Err WriteMemory) is = memory-left (TooLarge stream) k k.stops is
   drained-stops (Limit node) over k (Ok u) is = record {

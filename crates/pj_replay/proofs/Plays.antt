@@ -175,6 +175,8 @@ module _ (run : RunStart) (h : List Entry) (s : Stage) (line : ℕ) (step : Scri
       front = h;
       back = [];
       parts = λ told. append-nil h ∙ sym (whole-is told);
+      within = p.within;
+      script = p.script;
       given = p.given;
       all = ap (λ hand. p.given ++ hand.core.kept.undrained) k.hand ∙ p.all;
       written = λ t. subst (λ sink. sink.written ≡ run.sink.written ++ flat (shown run.job.form run.job.nodes p.given)) (sym k.sink) (p.written (subst (λ sink. IsTrue sink.told) k.sink t));
@@ -199,6 +201,8 @@ module _ (run : RunStart) (h : List Entry) (s : Stage) (line : ℕ) (step : Scri
     front = h;
     back = remaining nodes (lefts s) ((line, step) ∷ rest);
     parts = λ told. sym (p.rest told);
+    within = p.within;
+    script = p.script;
     given = p.given;
     all = ap (λ (os : List Out). p.given ++ os) k.undrained ∙ p.all;
     written = λ t. k.written t ∙ p.written (k.told t);

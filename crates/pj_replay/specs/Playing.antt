@@ -1,5 +1,5 @@
 -- The steps of a script on a hand, its feeds and what is gathered, one by one.
-use Rattle.std.specs.Prelude.{◌≡◌, ◌⊎◌, ◌<◌, ◌≤◌, ℕ, ⊤, Bool, true, false, List, [], ◌∷◌, ◌++◌, map, length, set, Option, Some, None, IsTrue, slice_get, slice_index_or}
+use Rattle.std.specs.Prelude.{◌≡◌, ◌⊎◌, ◌<◌, ◌≤◌, ℕ, ⊤, Bool, true, false, List, [], ◌∷◌, ◌++◌, map, length, set, Option, Some, None, IsTrue, slice_get, slice_index_or, Result, IfOk, IfErr}
 use Rattle.pj_io.specs.Causes.{Rose}
 use Rattle.pj_io.specs.States.{SinkState}
 use Rattle.pj_value.specs.Lists.{has}
@@ -208,3 +208,15 @@ pub record DrainStops (stop : RunStop) (old new : Stage) (step : ScriptStep) : T
 -- a step stopped
 abbrev pub StepEnds : RunStop → Stage → Stage → ScriptStep → Type 0
 StepEnds stop old new step = StepStops stop old new step ⊎ DrainStops stop old new step
+
+-- what answers a step that did not stop: whether it was made
+abbrev pub PlaysStep : Stage → Stage → ScriptStep → Result Bool RunStop → Type 0
+PlaysStep old new step result = IfOk result (λ made. AnswersPlay made old new step)
+
+-- what the act of a step that stopped leaves
+abbrev pub LeavesStep : Stage → Stage → ScriptStep → Result Bool RunStop → Type 0
+LeavesStep old new step result = IfErr result (λ stop. StepStops stop old new step)
+
+-- what a step that stopped leaves
+abbrev pub EndsStep : Stage → Stage → ScriptStep → Result Bool RunStop → Type 0
+EndsStep old new step result = IfErr result (λ stop. StepEnds stop old new step)

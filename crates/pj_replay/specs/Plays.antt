@@ -1,5 +1,5 @@
 -- How far a replay has gone with the steps of its script, and where it stops among them.
-use Rattle.std.specs.Prelude.{◌≡◌, ◌⊎◌, ◌≤◌, ◌^◌, ℕ, ⊤, Bool, true, false, Result, Ok, Err, List, [], ◌∷◌, ◌++◌, Some, IsTrue, slice_get}
+use Rattle.std.specs.Prelude.{◌≡◌, ◌⊎◌, ◌≤◌, ◌^◌, ℕ, ⊤, Bool, true, false, Result, Ok, Err, List, [], ◌∷◌, ◌++◌, Some, IsTrue, IfErr, slice_get}
 use Rattle.pj_io.specs.States.{SinkState}
 use Rattle.pj_pattern.specs.declared.element.Element.{Element}
 use Rattle.pj_events.specs.declared.events.Entry.{Entry}
@@ -88,6 +88,8 @@ pub record StopsStanding (stop : RunStop) (run : RunStart) (s : Stage) : Type 0 
   pub front : List Entry
   pub back : List Entry
   pub parts : AllTold run.feeds → front ++ back ≡ whole_of run
+  pub within : StaysWithin run.job.limit (run_nodes run.job) [] front
+  pub script : HasScript run.job
   pub given : List Out
   pub all : given ++ s.hand.core.kept.undrained ≡ handed_out run.job.trace (run_nodes run.job) front
   pub written : IsTrue s.sink.told → s.sink.written ≡ run.sink.written ++ flat (shown run.job.form run.job.nodes given)
@@ -128,8 +130,8 @@ pub record HasStopped (stop : RunStop) (run : RunStart) (s : Stage) : Type 0 whe
   pub stops : StoppedAs stop run s
 
 -- the same of each replay that had these steps to come
-abbrev pub StopsSteps : RunStop → Stage → Stage → List (ℕ × ScriptStep) → Type 0
-StopsSteps stop old new steps = (run : RunStart) (history : List Entry) → IsPlaying run history old steps → HasStopped stop run new
+abbrev pub StopsSteps : {T : Type 0} → Stage → Stage → List (ℕ × ScriptStep) → Result T RunStop → Type 0
+StopsSteps old new steps result = IfErr result (λ stop. (run : RunStart) (history : List Entry) → IsPlaying run history old steps → HasStopped stop run new)
 
 -- a replay stopped: as much of its lines was written as the stop leaves, and why
 pub record StopsReplay (stop : RunStop) (run : RunStart) (news : List FeedState) (sink : SinkState) : Type 0 where

@@ -8,7 +8,7 @@ ghost use Rattle.pj_report.specs.Written.{WritesNothing};
 ghost use Rattle.pj_run.specs.Stops.{of_core, of_turn};
 ghost use Rattle.pj_run.specs.Turning.{IsTurnOf};
 ghost use Rattle.pj_script.specs.declared.step.ScriptStep.TheVariants.{Arrive};
-ghost use Rattle.pj_replay.specs.Playing.{AnswersPlay, IsOpenAt, IsReady, NextAt, NoneAt, StepStops, stage};
+ghost use Rattle.pj_replay.specs.Playing.{IsOpenAt, IsReady, NextAt, NoneAt, stage, PlaysStep, LeavesStep};
 
 use pj_core::Stop;
 use pj_feed::{Arrival, Feeds};
@@ -29,8 +29,8 @@ pub(crate) fn arrive<S: Source, K: Sink>(
 ) -> Result<bool, RunStop>
     requires ready { IsReady (stage hand.old feeds.old.feeds.items gathered.old (K.state out.old)) }
     requires there { stream < length (streams_in hand.old.core.plan.nodes) }
-    ensures ok { IfOk result (λ made. AnswersPlay made (stage hand.old feeds.old.feeds.items gathered.old (K.state out.old)) (stage hand.new feeds.new.feeds.items gathered.new (K.state out.new)) (Arrive stream)) }
-    ensures err { IfErr result (λ stop. StepStops stop (stage hand.old feeds.old.feeds.items gathered.old (K.state out.old)) (stage hand.new feeds.new.feeds.items gathered.new (K.state out.new)) (Arrive stream)) }
+    ensures ok { PlaysStep (stage hand.old feeds.old.feeds.items gathered.old (K.state out.old)) (stage hand.new feeds.new.feeds.items gathered.new (K.state out.new)) (Arrive stream) result }
+    ensures err { LeavesStep (stage hand.old feeds.old.feeds.items gathered.old (K.state out.old)) (stage hand.new feeds.new.feeds.items gathered.new (K.state out.new)) (Arrive stream) result }
     ensures at { feeds.new.at ≡ feeds.old.at }
     ensures same { AreSameFeeds feeds.old.feeds.items feeds.new.feeds.items }
     ensures told { IsTrue (K.state out.new).told → IsTrue (K.state out.old).told }

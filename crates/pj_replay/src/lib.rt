@@ -8,5 +8,3 @@ mod settling;
 mod stepping;
 
 pub use replay::{Replayed, replay_streams};
-pub use script::play;
-pub use settling::{drain, settle};

@@ -1,19 +1,19 @@
 // The run of a plan by a script.
 ghost use Rattle.std.specs.Prelude.{◌≡◌, ◌≤◌, None, Some, IsTrue, IfErr, IfOk, OnOk};
 ghost use Rattle.pj_core.specs.Cores.{StandsFor};
-ghost use Rattle.pj_feed.specs.Feeds.{AllTold, AreAllTaken, AreFeeds, AreNew, AreSameFeeds, files_of, tallies_in};
+ghost use Rattle.pj_feed.specs.Feeds.{AllTold, AreAllTaken, AreFeeds, AreNew, AreSameFeeds, files_of};
 ghost use Rattle.pj_plan.specs.Nodes.{streams_in};
 ghost use Rattle.pj_report.specs.declared.writer.Form.{Form};
 ghost use Rattle.pj_run.specs.Cuts.{run_cut};
-ghost use Rattle.pj_run.specs.Outcome.{IsOutcome};
 ghost use Rattle.pj_run.specs.PlanNames.{HasShortNames};
 ghost use Rattle.pj_run.specs.RunEnds.{StoppedTurns, TurnsCause, TurnsWrite};
-ghost use Rattle.pj_run.specs.Runs.{IsEnabled, IsNewCore, history_of, job_by};
+ghost use Rattle.pj_run.specs.Runs.{IsEnabled, IsNewCore, history_of, job_by, StaysInLimit};
 ghost use Rattle.pj_run.specs.Whole.{HasTaken, WritesWhole};
 ghost use Rattle.pj_script.specs.Reading.{AreStepsOf};
-ghost use Rattle.pj_run.specs.Goes.{StopCause, StopsRun, WritesRun, whole_of};
+ghost use Rattle.pj_run.specs.Goes.{StopsRun, WritesRun, whole_of, CausesRun};
 ghost use Rattle.pj_replay.specs.Playing.{IsReady, stage};
 ghost use Rattle.pj_replay.specs.Plays.{WherePlayed};
+ghost use Rattle.pj_run.specs.Outcome.{TurnsGather};
 
 use crate::script::play;
 use crate::settling::settle;
@@ -61,9 +61,10 @@ pub fn replay_streams<S: Source, K: Sink>(
     ensures lines { TurnsWrite (job_by (Some steps.now) writing core) feeds.old.feeds.items (K.state out.old) (K.state out.new) result.ended }
     ensures whole { WritesWhole run_cut (K.state out.old) (K.state out.new) result.ended }
     ensures ends { StoppedTurns (job_by (Some steps.now) writing core) feeds.old.feeds.items feeds.new.feeds.items (K.state out.old) (K.state out.new) result.ended }
-    ensures outcome { AllTold feeds.old.feeds.items → IfOk result.ended (λ gathered. IsOutcome (job_by (Some steps.now) writing core) (files_of feeds.old.feeds.items) (tallies_in feeds.new.feeds.items) gathered) }
+    ensures outcome { TurnsGather (job_by (Some steps.now) writing core) feeds.old.feeds.items feeds.new.feeds.items result.ended }
     ensures enabled { AllTold feeds.old.feeds.items → OnOk result.ended (IsEnabled (job_by (Some steps.now) writing core) (files_of feeds.old.feeds.items)) }
     ensures stands { AllTold feeds.old.feeds.items → OnOk result.ended (StandsFor result.core (history_of (job_by (Some steps.now) writing core) (files_of feeds.old.feeds.items))) }
+    ensures within { AllTold feeds.old.feeds.items → OnOk result.ended (StaysInLimit (job_by (Some steps.now) writing core) (files_of feeds.old.feeds.items)) }
     ensures taken { OnOk result.ended (AreAllTaken feeds.new.feeds.items) }
     ensures has_taken { IfOk result.ended (λ gathered. HasTaken writing.form gathered.results) }
     ensures causes { IfErr result.ended (λ stop. TurnsCause stop (job_by (Some steps.now) writing core) feeds.old.feeds.items feeds.new.feeds.items (K.state out.old) (K.state out.new)) }
@@ -108,9 +109,10 @@ fn finish_turns<S: Source, K: Sink>(
     ensures lines { WherePlayed (stage hand feeds.old.feeds.items gathered (K.state out.old)) (λ run. WritesRun run (K.state out.new) result.ended) }
     ensures whole { HasShortNames hand.core.plan.nodes → WritesWhole run_cut (K.state out.old) (K.state out.new) result.ended }
     ensures ends { WherePlayed (stage hand feeds.old.feeds.items gathered (K.state out.old)) (λ run. StopsRun run feeds.new.feeds.items (K.state out.new) result.ended) }
-    ensures outcome { WherePlayed (stage hand feeds.old.feeds.items gathered (K.state out.old)) (λ run. AllTold run.feeds → IfOk result.ended (λ all. IsOutcome run.job (files_of run.feeds) (tallies_in feeds.new.feeds.items) all)) }
+    ensures outcome { WherePlayed (stage hand feeds.old.feeds.items gathered (K.state out.old)) (λ run. TurnsGather run.job run.feeds feeds.new.feeds.items result.ended) }
     ensures stands { WherePlayed (stage hand feeds.old.feeds.items gathered (K.state out.old)) (λ run. AllTold run.feeds → OnOk result.ended (StandsFor result.core (whole_of run))) }
-    ensures causes { WherePlayed (stage hand feeds.old.feeds.items gathered (K.state out.old)) (λ run. IfErr result.ended (λ stop. StopCause stop run feeds.new.feeds.items (K.state out.new))) }
+    ensures within { WherePlayed (stage hand feeds.old.feeds.items gathered (K.state out.old)) (λ run. AllTold run.feeds → OnOk result.ended (StaysInLimit run.job (files_of run.feeds))) }
+    ensures causes { WherePlayed (stage hand feeds.old.feeds.items gathered (K.state out.old)) (λ run. CausesRun run feeds.new.feeds.items (K.state out.new) result.ended) }
     ensures taken { OnOk result.ended (AreAllTaken feeds.new.feeds.items) }
     ensures has_taken { (form : Form) → HasTaken form gathered.results → IfOk result.ended (λ all. HasTaken form all.results) }
     ensures later { (K.state out.old).faults ≤ (K.state out.new).faults }

@@ -24,7 +24,7 @@ use std::alloc::Global;
 /// At `Refused`, and where a stream's turn could not be made or an element went beyond a limit, exactly what was handed out until then
 /// is written first; where memory was wanting in a step, as much of it as memory suffices for. Where the output fails then,
 /// `CutRefused`, `CutRead`, `CutLarge` or `Cut` tells the stop that came before.
-pub fn play<S: Source, K: Sink>(
+pub(crate) fn play<S: Source, K: Sink>(
     alloc: Global,
     hand: &mut Hand,
     feeds: &mut Feeds<S>,
@@ -135,7 +135,7 @@ fn play_steps<S: Source, K: Sink>(
     requires fits { AreStepsOf hand.old.core.plan.nodes steps.now }
     ensures plan { hand.new.core.plan ≡ hand.old.core.plan }
     ensures ok { OnOk result (HasPlayed (stage hand.old feeds.old.feeds.items gathered.old (K.state out.old)) (stage hand.new feeds.new.feeds.items gathered.new (K.state out.new)) steps.now) }
-    ensures err { IfErr result (λ stop. StopsSteps stop (stage hand.old feeds.old.feeds.items gathered.old (K.state out.old)) (stage hand.new feeds.new.feeds.items gathered.new (K.state out.new)) steps.now) }
+    ensures err { StopsSteps (stage hand.old feeds.old.feeds.items gathered.old (K.state out.old)) (stage hand.new feeds.new.feeds.items gathered.new (K.state out.new)) steps.now result }
     ensures at { feeds.new.at ≡ feeds.old.at }
     ensures same { AreSameFeeds feeds.old.feeds.items feeds.new.feeds.items }
     ensures told { IsTrue (K.state out.new).told → IsTrue (K.state out.old).told }

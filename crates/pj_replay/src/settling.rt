@@ -23,7 +23,7 @@ use pj_value::List as Items;
 use std::alloc::Global;
 
 /// Gives all that a hand has to hand out to the writer. `text` is where lines are made.
-pub fn drain<K: Sink>(
+pub(crate) fn drain<K: Sink>(
     alloc: Global,
     hand: &mut Hand,
     results: &mut ResultWriter,
@@ -48,7 +48,7 @@ pub fn drain<K: Sink>(
 ///
 /// `Limit` comes where an entry on the way brings one element beyond the limit of a node; exactly what was handed out before that
 /// is written first. Where that fails, `Cut` tells the stop that came before.
-pub fn settle<K: Sink>(
+pub(crate) fn settle<K: Sink>(
     alloc: Global,
     hand: &mut Hand,
     results: &mut ResultWriter,

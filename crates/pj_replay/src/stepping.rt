@@ -1,7 +1,7 @@
 // The steps of a script, one at a time.
-ghost use Rattle.std.specs.Prelude.{◌≡◌, ◌≤◌, IsTrue, IfErr, IfOk};
+ghost use Rattle.std.specs.Prelude.{◌≡◌, ◌≤◌, IsTrue};
 ghost use Rattle.pj_script.specs.Reading.{IsStepOf};
-ghost use Rattle.pj_replay.specs.Playing.{AnswersPlay, IsReady, StepEnds, stage};
+ghost use Rattle.pj_replay.specs.Playing.{IsReady, stage, PlaysStep, EndsStep};
 ghost use Rattle.pj_feed.specs.Feeds.{AreSameFeeds};
 
 use crate::arriving::{arrive, run_stop};
@@ -26,8 +26,8 @@ pub(crate) fn make_step<S: Source, K: Sink>(
 ) -> Result<bool, RunStop>
     requires ready { IsReady (stage hand.old feeds.old.feeds.items gathered.old (K.state out.old)) }
     requires fits { IsStepOf hand.old.core.plan.nodes step }
-    ensures ok { IfOk result (λ made. AnswersPlay made (stage hand.old feeds.old.feeds.items gathered.old (K.state out.old)) (stage hand.new feeds.new.feeds.items gathered.new (K.state out.new)) step) }
-    ensures err { IfErr result (λ stop. StepEnds stop (stage hand.old feeds.old.feeds.items gathered.old (K.state out.old)) (stage hand.new feeds.new.feeds.items gathered.new (K.state out.new)) step) }
+    ensures ok { PlaysStep (stage hand.old feeds.old.feeds.items gathered.old (K.state out.old)) (stage hand.new feeds.new.feeds.items gathered.new (K.state out.new)) step result }
+    ensures err { EndsStep (stage hand.old feeds.old.feeds.items gathered.old (K.state out.old)) (stage hand.new feeds.new.feeds.items gathered.new (K.state out.new)) step result }
     ensures at { feeds.new.at ≡ feeds.old.at }
     ensures same { AreSameFeeds feeds.old.feeds.items feeds.new.feeds.items }
     ensures told { IsTrue (K.state out.new).told → IsTrue (K.state out.old).told }

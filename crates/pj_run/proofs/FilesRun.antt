@@ -14,7 +14,7 @@ use Rattle.pj_feed.specs.declared.stops.OpeningStop.TheVariants.{Fault, NoMemory
 use Rattle.pj_run.specs.declared.stops.RunStop.{RunStop}
 use Rattle.pj_run.specs.declared.stops.RunStop.TheVariants.{ReadFault, TooLarge, Limit, Refused, WriteFailed, NoMemory, Cut as RunCut, CutRead, CutLarge, CutRefused}
 use Rattle.pj_run.specs.declared.stops.FilesStop.TheVariants.{Opening, Run}
-use Rattle.pj_feed.specs.Named.{AreTold, files_named}
+use Rattle.pj_feed.specs.Named.{AreTold, IsAlone, files_named}
 use Rattle.pj_feed.specs.Feeds.{FeedState, bytes_of, files_of, fed_elements, AreFeeds, AllTold}
 use Rattle.pj_feed.specs.Opened.{AreFeedsOf, StayOutside, names_in, NoneNamed, IsLast, HasLasts, TriesAtMost, IsFaultAt}
 use Rattle.pj_run.specs.RunEnds.{AreRead, CutCause, FeedsCause, FeedsEnd, FilesCause, FilesEnd, FilesOpened, IsFaultOf, IsLargeFile}
@@ -24,6 +24,9 @@ use Rattle.pj_run.specs.Turning.{TurnsEnd}
 use Rattle.pj_feed.proofs.Outside.{close_stays, close_tries}
 use Rattle.pj_feed.proofs.AllFeeds.{one_of, same_at, same_long, told_still, told_at, bytes_of_feed}
 use Rattle.pj_feed.proofs.Opening.{AreNamed, agree_none, none_before, named_still, named_of, feeds_of, told_of, files_are, last_at_fault, last_read, keeps_of, opens_still}
+use Rattle.pj_run.specs.Ends.{ArrivedOf}
+use Rattle.pj_events.specs.declared.events.Entry.{Entry}
+use Rattle.pj_events.specs.Outcomes.{elements_of as arrived_at}
 
 -- ---- a run over files that were opened
 
@@ -58,29 +61,30 @@ run_end stop job names old mid after feeds written lines opened are_told e = go 
     files : files_of feeds ≡ files_named names old
     files = (opened.told are_told).1
 
-    go : (s : RunStop) → TurnsEnd s job (files_named names old) e.news written lines → FilesEnd (Run s) job names old after written lines
-    go (ReadFault stream) ends =
-        let feed : FeedState = ends.0 in
-        let o = same_at feeds e.news stream feed e.same ends.1 in
+    -- what had arrived at a stream whose read failed, by the bytes that its file's name has taken
+    arrived : (stream : ℕ) (front : List Entry) (feed : FeedState) → slice_get e.news stream ≡ Some feed → arrived_at stream front ≡ fed_elements feed.intake.columns feed.source.taken
+        → IsAlone stream names → ArrivedOf job (files_named names old) stream (after.last (slice_index_or names stream [])) front
+    arrived stream front feed is came alone =
+        let o = same_at feeds e.news stream feed e.same is in
         let one = one_of 0 (streams_in job.nodes) feeds stream o.0 opened.fed o.1 in
         let columns : feed.intake.columns ≡ stream_columns (streams_in job.nodes) stream = o.2.columns ∙ one.schema in
         let bytes : get_or (files_named names old) stream [] ≡ feed.source.taken ++ feed.source.left =
-        ap (λ (fs : List (List ℕ)). get_or fs stream []) (sym files) ∙ (bytes_of_feed feeds stream o.0 o.1 ∙ sym (o.2.bytes (told_at feeds stream o.0 told o.1))) in (
-          ends.2,
-          λ alone.
-              let last : after.last (slice_index_or names stream []) ≡ length feed.source.taken =
-              last_at_fault 0 (streams_in job.nodes) names old feeds e.news stream feed mid.last after.last opened.of e.same (told_still feeds e.news e.same told) alone ends.1 e.lasts in
-              let front : take (after.last (slice_index_or names stream [])) (get_or (files_named names old) stream []) ≡ feed.source.taken =
-              ap₂ (λ (k : ℕ) (xs : List ℕ). take k xs) last bytes ∙ take-append_seam feed.source.taken feed.source.left in
-              ends.3 ∙ ap₂ (λ (ks : List Column) (xs : List ℕ). fed_elements ks xs) columns (sym front),
-        )
+        ap (λ (fs : List (List ℕ)). get_or fs stream []) (sym files) ∙ (bytes_of_feed feeds stream o.0 o.1 ∙ sym (o.2.bytes (told_at feeds stream o.0 told o.1))) in
+        let last : after.last (slice_index_or names stream []) ≡ length feed.source.taken =
+        last_at_fault 0 (streams_in job.nodes) names old feeds e.news stream feed mid.last after.last opened.of e.same (told_still feeds e.news e.same told) alone is e.lasts in
+        let front-is : take (after.last (slice_index_or names stream [])) (get_or (files_named names old) stream []) ≡ feed.source.taken =
+        ap₂ (λ (k : ℕ) (xs : List ℕ). take k xs) last bytes ∙ take-append_seam feed.source.taken feed.source.left in
+        came ∙ ap₂ (λ (ks : List Column) (xs : List ℕ). fed_elements ks xs) columns (sym front-is)
+
+    go : (s : RunStop) → TurnsEnd s job (files_named names old) e.news written lines → FilesEnd (Run s) job names old after written lines
+    go (ReadFault stream) ends = (ends.2, arrived stream ends.2.front ends.0 ends.1 ends.3)
     go (TooLarge stream) ends = ends
     go (Limit node) ends = ends
     go (Refused line) ends = ends
     go WriteFailed ends = tt
     go NoMemory ends = tt
     go (RunCut stop) ends = ends
-    go (CutRead stream) ends = ends
+    go (CutRead stream) ends = (ends.2, arrived stream ends.2.front ends.0 ends.1 ends.3)
     go (CutLarge stream) ends = ends
     go (CutRefused line) ends = ends
 
@@ -117,8 +121,8 @@ run_cause WriteFailed job names old mid after feeds sink sink' opened falls caus
 run_cause NoMemory job names old mid after feeds sink sink' opened falls cause = tt
 run_cause (RunCut stop) job names old mid after feeds sink sink' opened falls cause =
     (cause.0, λ told. subst (λ (fs : List (List ℕ)). CutCause stop job fs) (opened.told told).1 (cause.1 (opened.told told).0))
-run_cause (CutRead stream) job names old mid after feeds sink sink' opened falls cause = (cause.0, fault_there stream job names old mid after feeds opened falls (cause.1, cause.2, cause.3))
-run_cause (CutLarge stream) job names old mid after feeds sink sink' opened falls cause = (cause.0, large_there stream job names old feeds opened (cause.1, cause.2, cause.3))
+run_cause (CutRead stream) job names old mid after feeds sink sink' opened falls cause = (cause.0, fault_there stream job names old mid after feeds opened falls (cause.1, cause.2, cause.3), cause.4)
+run_cause (CutLarge stream) job names old mid after feeds sink sink' opened falls cause = (cause.0, large_there stream job names old feeds opened (cause.1, cause.2, cause.3), cause.4)
 run_cause (CutRefused line) job names old mid after feeds sink sink' opened falls cause = (cause.0, cause.1, refused_there line job names old feeds opened cause.2)
 
 each_read : (folder after : FolderState) (before : List ℕ → ℕ) (news feeds : List FeedState) (names : List (List ℕ)) → ((name : List ℕ) → IsTrue (folder.told name) → IsLast name (length (folder.contents name)) news (before name) (after.last name))

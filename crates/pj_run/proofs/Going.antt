@@ -217,6 +217,7 @@ stops_before run history core left results t rest stream lines made is mine writ
       run = sym (ap (λ (ts : List Turn). history ++ turns_entries true nodes ts) is) ∙ made.rest;
       element = t.element;
       turn = ap (λ (n : ℕ). Arrive n t.element) mine;
+      within = made.within;
       written = written;
     }
 

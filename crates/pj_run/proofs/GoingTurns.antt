@@ -49,6 +49,7 @@ use Rattle.pj_run.proofs.Keeping.{keeps_more, there_of}
 use Rattle.pj_run.proofs.Running.{turn_of_feeds}
 use Rattle.pj_run.specs.Goes.{BringsAll, EndsRun, HasKept, HasLists, HasMade, IsGoing, RunStart, StopCause, StopLeaves, whole_of}
 use Rattle.pj_run.proofs.Going.{feed_leaves, feed_why, lines_so_far, made_next, may_follow, shown_until, turn_leaves, turn_lines, turn_made, turn_stopped, turn_why}
+use Rattle.pj_events.specs.Limits.{StaysWithin}
 
 -- the streams of a sound plan are few
 pub few_of : (nodes : List PlanNode) (feeds : List FeedState) → IsSoundPlan nodes → AreFeeds 0 (streams_in nodes) feeds → length feeds ≤ 128
@@ -193,6 +194,7 @@ module _ (run : RunStart) (history : List Entry) (core : CoreState) (feeds feeds
   pub end_gathers : HasLists (length (streams_in core.plan.nodes)) gathered.accepted → AllClosed feeds → feeds' ≡ feeds → EndsRun run core feeds' gathered
   end_gathers lists closed same = record {
     stands = λ told. subst (StandsFor core) (all-made told) (going.made told).stands;
+    within = λ told. subst (λ (h : List Entry). StaysWithin run.job.limit (run_nodes run.job) [] h) (all-made told) (going.made told).within;
     gathers = λ told. record {
       each = ap tallies_in same ∙ (all_tallied 0 (streams_in run.job.nodes) feeds fed-here closed (told_still run.feeds feeds going.same told) ∙ ap (tallies_of (streams_in run.job.nodes)) (files_still run.feeds feeds going.same told));
       results = (going.made told).taken ∙ ap (λ (h : List Entry). taken_so_far run.job.form (elements_out (handed_out run.job.trace (run_nodes run.job) h))) (all-made told);

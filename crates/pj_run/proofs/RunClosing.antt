@@ -25,7 +25,7 @@ feeds_cause WriteFailed job olds news before after old new same counted cause = 
 feeds_cause NoMemory job olds news before after old new same counted cause = tt
 feeds_cause (RunCut stop) job olds news before after old new same counted cause = cause
 feeds_cause (CutRead stream) job olds news before after old new same counted cause =
-    let f = fault_of_name olds news stream before.faults after.faults same counted (cause.1, cause.2, cause.3) in (cause.0, f.0, f.1, f.2)
+    let f = fault_of_name olds news stream before.faults after.faults same counted (cause.1, cause.2, cause.3) in (cause.0, f.0, f.1, f.2, cause.4)
 feeds_cause (CutLarge stream) job olds news before after old new same counted cause = cause
 feeds_cause (CutRefused line) job olds news before after old new same counted cause = cause
 

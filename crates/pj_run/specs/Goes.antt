@@ -1,5 +1,5 @@
 -- A run that has begun, how far it has gone, and where it stops.
-use Rattle.std.specs.Prelude.{◌≡◌, ◌<◌, ◌≤◌, ◌^◌, ℕ, ⊤, true, List, [], ◌++◌, length, Option, Result, Some, IsTrue, slice_get, slice_index_or}
+use Rattle.std.specs.Prelude.{◌≡◌, ◌<◌, ◌≤◌, ◌^◌, ℕ, ⊤, true, List, [], ◌++◌, length, Option, Result, Some, IsTrue, slice_get, slice_index_or, IfErr}
 use Rattle.pj_io.specs.Causes.{Rose}
 use Rattle.pj_io.specs.States.{SinkState}
 use Rattle.pj_plan.specs.Nodes.{streams_in}
@@ -24,7 +24,7 @@ use Rattle.pj_run.specs.Ends.{lines_until}
 use Rattle.pj_run.specs.Jobs.{HasScript, Job}
 use Rattle.pj_run.specs.Outcome.{IsOutcome}
 use Rattle.pj_run.specs.RunEnds.{StoppedTurns, TurnsWrite}
-use Rattle.pj_run.specs.Runs.{history_of, plan_run, refused_line, run_nodes}
+use Rattle.pj_run.specs.Runs.{history_of, plan_run, refused_line, run_nodes, StaysInLimit}
 use Rattle.pj_run.specs.Turning.{TurnsEnd}
 
 -- what is run, and its feeds and its sink at the beginning
@@ -58,8 +58,8 @@ abbrev pub CoreCause : Stop → RunStart → Type 0
 CoreCause (CoreLimit node) run = ReachesLimit run.job.limit (run_nodes run.job) (whole_of run) node
 CoreCause CoreMemory run = ⊤
 
--- why it stopped: a source's faults rose, a file gave too many bytes, an element went beyond a limit, a step is not enabled, or the
--- sink's faults rose, behind such a stop or without one; memory may be wanting at any time
+-- why it stopped: a source has faults, a file gave too many bytes, an element went beyond a limit, a step is not enabled, or the sink's
+-- faults rose, behind such a stop or without one; behind a read that failed only where there is a script; memory may be wanting at any time
 abbrev pub StopCause : RunStop → RunStart → List FeedState → SinkState → Type 0
 StopCause (ReadFault stream) run news sink = (feed : FeedState) × (slice_get news stream ≡ Some feed) × (1 ≤ feed.source.faults)
 StopCause (TooLarge stream) run news sink =
@@ -70,10 +70,10 @@ StopCause WriteFailed run news sink = Rose run.sink.faults sink.faults
 StopCause NoMemory run news sink = ⊤
 StopCause (Cut stop) run news sink = Rose run.sink.faults sink.faults × (AllTold run.feeds → CoreCause stop run)
 StopCause (CutRead stream) run news sink =
-    Rose run.sink.faults sink.faults × (feed : FeedState) × (slice_get news stream ≡ Some feed) × (1 ≤ feed.source.faults)
+    Rose run.sink.faults sink.faults × (feed : FeedState) × (slice_get news stream ≡ Some feed) × (1 ≤ feed.source.faults) × HasScript run.job
 StopCause (CutLarge stream) run news sink =
     Rose run.sink.faults sink.faults × (feed : FeedState) × (slice_get run.feeds stream ≡ Some feed)
-    × (IsTrue feed.source.told → 2 ^ 40 ≤ length (bytes_of feed))
+    × (IsTrue feed.source.told → 2 ^ 40 ≤ length (bytes_of feed)) × HasScript run.job
 StopCause (CutRefused line) run news sink = Rose run.sink.faults sink.faults × HasScript run.job × (AllTold run.feeds → refused_of run ≡ Some line)
 
 -- where the files and the sink are told: the lines of the history's outputs were written, or as much of them as the stop leaves
@@ -83,6 +83,10 @@ WritesRun run sink result = TurnsWrite run.job run.feeds run.sink sink result
 -- where they are told: what the stop leaves
 abbrev pub StopsRun : {T : Type 0} → RunStart → List FeedState → SinkState → Result T RunStop → Type 0
 StopsRun run news sink result = StoppedTurns run.job run.feeds news run.sink sink result
+
+-- why it stopped, if it did
+abbrev pub CausesRun : {T : Type 0} → RunStart → List FeedState → SinkState → Result T RunStop → Type 0
+CausesRun run news sink result = IfErr result (λ stop. StopCause stop run news sink)
 
 -- ---- how far a run has gone
 
@@ -123,4 +127,5 @@ HasLists streams accepted = accepted.asked ≡ true → length accepted.lists.it
 -- where the files are told: what a run that was made to its end leaves
 pub record EndsRun (run : RunStart) (core : CoreState) (feeds : List FeedState) (gathered : Gathered) : Type 0 where
   pub stands : AllTold run.feeds → StandsFor core (whole_of run)
+  pub within : AllTold run.feeds → StaysInLimit run.job (files_of run.feeds)
   pub gathers : AllTold run.feeds → IsOutcome run.job (files_of run.feeds) (tallies_in feeds) gathered

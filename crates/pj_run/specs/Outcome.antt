@@ -1,5 +1,5 @@
 -- What a run that was made to its end leaves for its report.
-use Rattle.std.specs.Prelude.{◌≡◌, ℕ, ℤ, true, List, [], ◌∷◌, ◌++◌, Result, IsTrue}
+use Rattle.std.specs.Prelude.{◌≡◌, ℕ, ℤ, true, List, [], ◌∷◌, ◌++◌, Result, IsTrue, IfOk}
 use Rattle.pj_run.specs.Jobs.{Job}
 use Rattle.pj_plan.specs.declared.node.PlanNode.{PlanNode}
 use Rattle.pj_value.specs.declared.values.Value.{Value}
@@ -14,12 +14,13 @@ use Rattle.pj_report.specs.Written.{WritesBy, write_cut}
 use Rattle.pj_events.specs.declared.events.Entry.{Entry}
 use Rattle.pj_run.specs.declared.checking.AcceptedRows.{AcceptedRows}
 use Rattle.pj_run.specs.declared.run.Gathered.{Gathered}
-use Rattle.pj_feed.specs.Feeds.{tallies_of}
+use Rattle.pj_feed.specs.Feeds.{tallies_of, FeedState, AllTold, files_of, tallies_in}
 use Rattle.pj_report.specs.declared.writer.Form.{Form}
 use Rattle.pj_report.specs.declared.writer.Form.TheVariants.{Summed}
 use Rattle.pj_report.specs.Forms.{taken_so_far, withheld}
 use Rattle.pj_report.specs.Report.{stream_lines, results_text}
 use Rattle.pj_run.specs.Runs.{accepted_rows, check_in, outputs_of, form_report, peaks_report}
+use Rattle.pj_run.specs.declared.stops.RunStop.{RunStop}
 
 -- the rows of each stream, where they are kept for a check
 abbrev pub AreAccepted : List (List (List Value)) → AcceptedRows → Type 0
@@ -31,6 +32,10 @@ pub record IsOutcome (job : Job) (files : List (List ℕ)) (tallies : List Tally
   pub results : gathered.results ≡ taken_so_far job.form (outputs_of job files)
   pub asked : gathered.accepted.asked ≡ job.check
   pub rows : AreAccepted (accepted_rows job files) gathered.accepted
+
+-- where the files are told: what was gathered in turns that were made to their end
+abbrev pub TurnsGather : Job → List FeedState → List FeedState → Result Gathered RunStop → Type 0
+TurnsGather job olds news result = AllTold olds → IfOk result (λ gathered. IsOutcome job (files_of olds) (tallies_in news) gathered)
 
 -- the lines of streams with these counts
 abbrev pub tally_lines : List PlanNode → List Tally → List (List ℕ)

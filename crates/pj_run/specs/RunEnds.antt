@@ -11,7 +11,7 @@ use Rattle.pj_feed.specs.declared.stops.OpeningStop.TheVariants.{Fault, NoMemory
 use Rattle.pj_run.specs.declared.stops.FilesStop.{FilesStop}
 use Rattle.pj_run.specs.declared.stops.FilesStop.TheVariants.{Opening, Run}
 use Rattle.pj_feed.specs.Named.{AreTold, files_named, IsAlone}
-use Rattle.pj_run.specs.Ends.{EndsBefore, EndsAtBytes, EndsAtLimit, EndsCutBefore, EndsCutRefused, EndsRefused, ArrivedOf}
+use Rattle.pj_run.specs.Ends.{EndsBefore, EndsAtBytes, EndsAtLimit, EndsCutBefore, EndsCutRefused, EndsRefused, ArrivedOf, EndsCutAtBytes}
 use Rattle.pj_feed.specs.Feeds.{FeedState, AreSameFeeds, AreAllTaken, AllTold, bytes_of, files_of}
 use Rattle.pj_feed.specs.Opened.{HasLasts, OpensFirst, StayOutside, TriesAtMost}
 use Rattle.pj_run.specs.Runs.{GoesBeyond, due_lines, outs_of, refused_line}
@@ -40,8 +40,9 @@ abbrev pub CutCause : Stop → Job → List (List ℕ) → Type 0
 CutCause (CoreLimit node) job files = GoesBeyond job files node
 CutCause CoreMemory job files = ⊤
 
--- why the turns of a run stopped: a source's faults rose, a file gave too many bytes, an element went beyond a limit, a step of a
--- script is not enabled, or the sink's faults rose, behind such a stop or without one; memory may be wanting at any time
+-- why the turns of a run stopped: a source has faults, a file gave too many bytes, an element went beyond a limit, a step of a script is
+-- not enabled, or the sink's faults rose, behind such a stop or without one; behind a read that failed only where there is a script, whose
+-- steps write nothing until they drain; memory may be wanting at any time
 abbrev pub TurnsCause : RunStop → Job → List FeedState → List FeedState → SinkState → SinkState → Type 0
 TurnsCause (ReadFault stream) job olds news old new = (feed : FeedState) × (slice_get news stream ≡ Some feed) × (1 ≤ feed.source.faults)
 TurnsCause (TooLarge stream) job olds news old new =
@@ -52,9 +53,10 @@ TurnsCause WriteFailed job olds news old new = Rose old.faults new.faults
 TurnsCause NoMemory job olds news old new = ⊤
 TurnsCause (Cut stop) job olds news old new = Rose old.faults new.faults × (AllTold olds → CutCause stop job (files_of olds))
 TurnsCause (CutRead stream) job olds news old new =
-    Rose old.faults new.faults × (feed : FeedState) × (slice_get news stream ≡ Some feed) × (1 ≤ feed.source.faults)
+    Rose old.faults new.faults × (feed : FeedState) × (slice_get news stream ≡ Some feed) × (1 ≤ feed.source.faults) × HasScript job
 TurnsCause (CutLarge stream) job olds news old new =
-    Rose old.faults new.faults × (feed : FeedState) × (slice_get olds stream ≡ Some feed) × (IsTrue feed.source.told → 2 ^ 40 ≤ length (bytes_of feed))
+    Rose old.faults new.faults × (feed : FeedState) × (slice_get olds stream ≡ Some feed)
+    × (IsTrue feed.source.told → 2 ^ 40 ≤ length (bytes_of feed)) × HasScript job
 TurnsCause (CutRefused line) job olds news old new = Rose old.faults new.faults × HasScript job × (AllTold olds → refused_line job (files_of olds) ≡ Some line)
 
 -- all bytes of the files were taken, and they were closed
@@ -89,10 +91,10 @@ FeedsCause NoMemory job feeds before after old new = ⊤
 FeedsCause (Cut stop) job feeds before after old new = Rose old.faults new.faults × (AllTold feeds → CutCause stop job (files_of feeds))
 FeedsCause (CutRead stream) job feeds before after old new =
     Rose old.faults new.faults × (feed : FeedState) × (slice_get feeds stream ≡ Some feed)
-    × Rose (before.faults feed.source.name) (after.faults feed.source.name)
+    × Rose (before.faults feed.source.name) (after.faults feed.source.name) × HasScript job
 FeedsCause (CutLarge stream) job feeds before after old new =
     Rose old.faults new.faults × (feed : FeedState) × (slice_get feeds stream ≡ Some feed)
-    × (IsTrue feed.source.told → 2 ^ 40 ≤ length (bytes_of feed))
+    × (IsTrue feed.source.told → 2 ^ 40 ≤ length (bytes_of feed)) × HasScript job
 FeedsCause (CutRefused line) job feeds before after old new =
     Rose old.faults new.faults × HasScript job × (AllTold feeds → refused_line job (files_of feeds) ≡ Some line)
 
@@ -125,8 +127,10 @@ FilesEnd (Run (Refused line)) job names before after written lines = EndsRefused
 FilesEnd (Run WriteFailed) job names before after written lines = ⊤
 FilesEnd (Run NoMemory) job names before after written lines = ⊤
 FilesEnd (Run (Cut stop)) job names before after written lines = CutEnd stop job (files_named names before) written lines
-FilesEnd (Run (CutRead stream)) job names before after written lines = EndsCutBefore job (files_named names before) stream written lines
-FilesEnd (Run (CutLarge stream)) job names before after written lines = EndsCutBefore job (files_named names before) stream written lines
+FilesEnd (Run (CutRead stream)) job names before after written lines =
+    (ends : EndsCutBefore job (files_named names before) stream written lines)
+    × (IsAlone stream names → ArrivedOf job (files_named names before) stream (after.last (slice_index_or names stream [])) ends.front)
+FilesEnd (Run (CutLarge stream)) job names before after written lines = EndsCutAtBytes job (files_named names before) stream written lines
 FilesEnd (Run (CutRefused line)) job names before after written lines = EndsCutRefused job (files_named names before) written lines
 
 -- the same, where the files and the sink are told
@@ -156,7 +160,7 @@ FilesCause (Run (Refused line)) job names before after old new =
 FilesCause (Run WriteFailed) job names before after old new = Rose old.faults new.faults
 FilesCause (Run NoMemory) job names before after old new = ⊤
 FilesCause (Run (Cut stop)) job names before after old new = Rose old.faults new.faults × (AreTold names before → CutCause stop job (files_named names before))
-FilesCause (Run (CutRead stream)) job names before after old new = Rose old.faults new.faults × IsFaultOf stream names before after
-FilesCause (Run (CutLarge stream)) job names before after old new = Rose old.faults new.faults × IsLargeFile stream names before
+FilesCause (Run (CutRead stream)) job names before after old new = Rose old.faults new.faults × IsFaultOf stream names before after × HasScript job
+FilesCause (Run (CutLarge stream)) job names before after old new = Rose old.faults new.faults × IsLargeFile stream names before × HasScript job
 FilesCause (Run (CutRefused line)) job names before after old new =
     Rose old.faults new.faults × HasScript job × (AreTold names before → refused_line job (files_named names before) ≡ Some line)

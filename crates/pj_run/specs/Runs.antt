@@ -15,7 +15,7 @@ use Rattle.pj_events.specs.Plan.{Node}
 use Rattle.pj_laws.specs.HistoryLaws.{AllAreCertified}
 use Rattle.pj_events.specs.declared.events.Entry.{Entry}
 use Rattle.pj_events.specs.declared.events.Out.{Out}
-use Rattle.pj_events.specs.Limits.{ReachesLimit}
+use Rattle.pj_events.specs.Limits.{ReachesLimit, StaysWithin}
 use Rattle.pj_events.specs.Outcomes.{elements_out, peak_of, outputs_of as handed_out}
 use Rattle.pj_events.specs.OneThread.{one_thread_of}
 use Rattle.pj_script.specs.declared.step.ScriptStep.{ScriptStep}
@@ -81,6 +81,10 @@ refused_line job files = refused_by job.script (run_nodes job) (accepted_of (str
 -- every step of its script is enabled, if there is a script
 abbrev pub IsEnabled : Job → List (List ℕ) → Type 0
 IsEnabled job files = refused_line job files ≡ None
+
+-- no entry of its history brings an element beyond its limit
+abbrev pub StaysInLimit : Job → List (List ℕ) → Type 0
+StaysInLimit job files = StaysWithin job.limit (run_nodes job) [] (history_of job files)
 
 -- what the run hands out
 abbrev pub outs_of : Job → List (List ℕ) → List Out

@@ -25,7 +25,7 @@ use Rattle.pj_io.specs.States.{SinkState}
 use Rattle.pj_report.specs.Forms.{shown, taken_so_far}
 use Rattle.pj_run.specs.Cuts.{turn_cut}
 use Rattle.pj_report.specs.Written.{flat, FrontOf, WritesBy}
-use Rattle.pj_run.specs.Ends.{EndsBefore, EndsAtBytes, EndsAtLimit, EndsCut, EndsCutBefore, EndsCutRefused, EndsRefused}
+use Rattle.pj_run.specs.Ends.{EndsBefore, EndsAtBytes, EndsAtLimit, EndsCut, EndsCutBefore, EndsCutRefused, EndsRefused, EndsCutAtBytes}
 use Rattle.pj_events.specs.declared.events.Stop.TheVariants.{Limit as CoreLimit, NoMemory as CoreMemory}
 
 -- the turn is of one of these streams, and what it brings fits the columns, where it is no closing
@@ -125,6 +125,8 @@ TurnsEnd (Refused line) job files feeds before lines = EndsRefused job files bef
 TurnsEnd WriteFailed job files feeds before lines = ⊤
 TurnsEnd NoMemory job files feeds before lines = ⊤
 TurnsEnd (Cut stop) job files feeds before lines = CutEnd stop job files before lines
-TurnsEnd (CutRead stream) job files feeds before lines = EndsCutBefore job files stream before lines
-TurnsEnd (CutLarge stream) job files feeds before lines = EndsCutBefore job files stream before lines
+TurnsEnd (CutRead stream) job files feeds before lines =
+    (feed : FeedState) × (slice_get feeds stream ≡ Some feed) × (ends : EndsCutBefore job files stream before lines)
+    × (arrived_at stream ends.front ≡ fed_elements feed.intake.columns feed.source.taken)
+TurnsEnd (CutLarge stream) job files feeds before lines = EndsCutAtBytes job files stream before lines
 TurnsEnd (CutRefused line) job files feeds before lines = EndsCutRefused job files before lines

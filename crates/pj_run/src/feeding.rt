@@ -47,6 +47,7 @@ pub fn next_turn<S: Source, K: Sink>(
 /// The next turn of a stream whose closing is still to come: its next accepted element, or its closing, which follows what was
 /// accepted before, whatever its source tells. What the output holds back is handed on before a read. After an `Err` no further turn
 /// can be made.
+#[inline(always)]
 pub fn next_of<S: Source, K: Sink>(feed: &mut Feed<S>, out: &mut K) -> Result<Arrival, FeedWhy>
     requires fed { IsFed feed.old }
     requires open { feed.old.is_open ≡ true }
@@ -71,6 +72,7 @@ pub fn next_of<S: Source, K: Sink>(feed: &mut Feed<S>, out: &mut K) -> Result<Ar
 }
 
 // Hands on what the output holds back, where the stream waits for its file.
+#[inline(always)]
 fn hand_on<S: Source, K: Sink>(feed: &Feed<S>, out: &mut K) -> Result<(), Failed>
     ensures written { WritesNothing (K.state out.old) (K.state out.new) }
     ensures handed_on { OnOk result (waits_for_read feed.now.intake ≡ true → (K.state out.new).held ≡ []) }

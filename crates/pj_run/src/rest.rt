@@ -1,5 +1,5 @@
 // The turns that are left of a run that has begun.
-ghost use Rattle.std.specs.Prelude.{◌≡◌, ◌≤◌, [], None, length, IsTrue, IfErr, OnOk};
+ghost use Rattle.std.specs.Prelude.{◌≡◌, ◌≤◌, [], None, length, IsTrue, OnOk};
 ghost use Rattle.pj_report.specs.declared.writer.Form.{Form};
 ghost use Rattle.pj_run.specs.Cuts.{run_cut};
 ghost use Rattle.pj_run.specs.PlanNames.{HasShortNames};
@@ -7,7 +7,7 @@ ghost use Rattle.pj_run.specs.Whole.{HasTaken, WritesWhole};
 ghost use Rattle.pj_feed.specs.Feeds.{AreAllTaken, AreFeeds, AreSameFeeds};
 ghost use Rattle.pj_plan.specs.Nodes.{streams_in};
 ghost use Rattle.pj_plan.specs.Sound.{IsSoundPlan};
-ghost use Rattle.pj_run.specs.Goes.{EndsRun, HasLists, StopCause, StopsRun, WhereGoing, WritesRun};
+ghost use Rattle.pj_run.specs.Goes.{EndsRun, HasLists, StopsRun, WhereGoing, WritesRun, CausesRun};
 
 use crate::feeding::next_turn;
 use crate::run::Gathered;
@@ -44,7 +44,7 @@ pub fn go_on<S: Source, K: Sink>(
     ensures whole { HasShortNames core.old.plan.nodes → WritesWhole run_cut (K.state out.old) (K.state out.new) result }
     ensures ends { WhereGoing core.old feeds.old.feeds.items feeds.old.at gathered.old (K.state out.old) (λ run. StopsRun run feeds.new.feeds.items (K.state out.new) result) }
     ensures outcome { OnOk result (WhereGoing core.old feeds.old.feeds.items feeds.old.at gathered.old (K.state out.old) (λ run. EndsRun run core.new feeds.new.feeds.items gathered.new)) }
-    ensures causes { WhereGoing core.old feeds.old.feeds.items feeds.old.at gathered.old (K.state out.old) (λ run. IfErr result (λ stop. StopCause stop run feeds.new.feeds.items (K.state out.new))) }
+    ensures causes { WhereGoing core.old feeds.old.feeds.items feeds.old.at gathered.old (K.state out.old) (λ run. CausesRun run feeds.new.feeds.items (K.state out.new) result) }
     ensures taken { OnOk result (AreAllTaken feeds.new.feeds.items) }
     ensures has_taken { (form : Form) → HasTaken form gathered.old.results → OnOk result (HasTaken form gathered.new.results) }
     ensures later { (K.state out.old).faults ≤ (K.state out.new).faults }

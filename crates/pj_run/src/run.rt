@@ -1,15 +1,15 @@
 // The run of a plan over open feeds, and its report.
-ghost use Rattle.std.specs.Prelude.{◌≡◌, ◌≤◌, List, [], length, IsTrue, IfErr, IfOk, OnOk, Err, Some};
+ghost use Rattle.std.specs.Prelude.{◌≡◌, ◌≤◌, List, [], length, IsTrue, IfErr, IfOk, OnOk, Err};
 ghost use Rattle.pj_pattern.specs.declared.element.Element.{Element};
 ghost use Rattle.pj_plan.specs.Nodes.{streams_in};
 ghost use Rattle.pj_io.specs.Causes.{Rose};
 ghost use Rattle.pj_core.specs.Cores.{StandsFor};
-ghost use Rattle.pj_feed.specs.Feeds.{AreFeeds, AreNew, AreSameFeeds, AllTold, AreAllTaken, files_of, tallies_in};
+ghost use Rattle.pj_feed.specs.Feeds.{AreFeeds, AreNew, AreSameFeeds, AllTold, AreAllTaken, files_of};
 ghost use Rattle.pj_report.specs.declared.writer.Form.{Form};
 ghost use Rattle.pj_run.specs.Cuts.{run_cut};
-ghost use Rattle.pj_run.specs.Outcome.{Finishes, IsOutcome};
+ghost use Rattle.pj_run.specs.Outcome.{Finishes, TurnsGather};
 ghost use Rattle.pj_run.specs.RunEnds.{StoppedTurns, TurnsCause, TurnsWrite};
-ghost use Rattle.pj_run.specs.Runs.{IsNewCore, history_of, job_in};
+ghost use Rattle.pj_run.specs.Runs.{IsNewCore, history_of, job_in, StaysInLimit};
 ghost use Rattle.pj_run.specs.Whole.{HasTaken, ReportsWhole, WritesWhole};
 
 use crate::checking::AcceptedRows;
@@ -83,8 +83,9 @@ pub fn run_streams<S: Source, K: Sink>(
     ensures lines { TurnsWrite (job_in writing core.old) feeds.old.feeds.items (K.state out.old) (K.state out.new) result }
     ensures whole { WritesWhole run_cut (K.state out.old) (K.state out.new) result }
     ensures ends { StoppedTurns (job_in writing core.old) feeds.old.feeds.items feeds.new.feeds.items (K.state out.old) (K.state out.new) result }
-    ensures outcome { AllTold feeds.old.feeds.items → IfOk result (λ gathered. IsOutcome (job_in writing core.old) (files_of feeds.old.feeds.items) (tallies_in feeds.new.feeds.items) gathered) }
+    ensures outcome { TurnsGather (job_in writing core.old) feeds.old.feeds.items feeds.new.feeds.items result }
     ensures stands { AllTold feeds.old.feeds.items → OnOk result (StandsFor core.new (history_of (job_in writing core.old) (files_of feeds.old.feeds.items))) }
+    ensures within { AllTold feeds.old.feeds.items → OnOk result (StaysInLimit (job_in writing core.old) (files_of feeds.old.feeds.items)) }
     ensures taken { OnOk result (AreAllTaken feeds.new.feeds.items) }
     ensures has_taken { IfOk result (λ gathered. HasTaken writing.form gathered.results) }
     ensures causes { IfErr result (λ stop. TurnsCause stop (job_in writing core.old) feeds.old.feeds.items feeds.new.feeds.items (K.state out.old) (K.state out.new)) }

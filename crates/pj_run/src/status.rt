@@ -32,6 +32,7 @@ pub fn write_stop<K: Sink>(name: &[u8], first: u32, stop: FilesStop, out: &mut K
     ensures told { IsTrue (K.state out.new).told → IsTrue (K.state out.old).told }
     ensures line { Delivered (stop_line first stop name.now) (K.state out.old) (K.state out.new) }
     ensures handed_on { IsStopTold stop → HandedOn (K.state out.old) (K.state out.new) }
+    ensures untold { (IsStopTold stop → ⊥) → out.new ≡ out.old }
     ensures later { (K.state out.old).faults ≤ (K.state out.new).faults }
 {
     match stop {
@@ -47,6 +48,7 @@ fn write_run_stop<K: Sink>(name: &[u8], first: u32, stop: RunStop, out: &mut K)
     ensures told { IsTrue (K.state out.new).told → IsTrue (K.state out.old).told }
     ensures line { Delivered (run_line first stop name.now) (K.state out.old) (K.state out.new) }
     ensures handed_on { IsRunTold stop → HandedOn (K.state out.old) (K.state out.new) }
+    ensures untold { (IsRunTold stop → ⊥) → out.new ≡ out.old }
     ensures later { (K.state out.old).faults ≤ (K.state out.new).faults }
 {
     match stop {

@@ -1,9 +1,7 @@
-use Rattle.std.proofs.Common.{◌≡◌, ◌≤◌, ◌++◌, Bool, ℕ, List, [], ap, sym, ◌∙◌, subst, length, IsTrue, Ok, Err, Result, refl}
+use Rattle.std.proofs.Common.{◌≡◌, ◌≤◌, ℕ, [], ap, sym, ◌∙◌, subst, length, Err, Result}
 use Rattle.pj_core.specs.Plans.{RunPlan}
-use Rattle.pj_io.specs.States.{FolderState, SinkState}
-use Rattle.pj_feed.specs.Named.{files_named, AreTold}
-use Rattle.pj_feed.specs.Opened.{AreReadToEnd, IsReadToEnd, StayReadToEnd}
-use Rattle.pj_feed.specs.declared.stops.OpeningStop.{OpeningStop}
+use Rattle.pj_feed.specs.Named.{files_named}
+use Rattle.pj_feed.specs.Opened.{AreReadToEnd, StayReadToEnd}
 use Rattle.pj_feed.proofs.StreamNodes.{count_numbers}
 use Rattle.pj_report.specs.declared.status.Status.{Status}
 use Rattle.pj_report.specs.Written.{Delivered}
@@ -11,13 +9,12 @@ use Rattle.pj_run.specs.Cuts.{files_cut}
 use Rattle.pj_run.specs.Jobs.{Job}
 use Rattle.pj_run.specs.PlanNames.{HasShortNames}
 use Rattle.pj_run.specs.RunEnds.{FilesCause, FilesOpened, FilesWrite, StoppedFiles}
-use Rattle.pj_run.specs.Runs.{job_by, IsEnabled}
+use Rattle.pj_run.specs.Runs.{job_by, IsEnabled, StaysInLimit}
 use Rattle.pj_run.specs.Stops.{files_status, stop_line}
 use Rattle.pj_run.specs.Whole.{WritesWhole}
 use Rattle.pj_run.specs.declared.stops.FilesStop.{FilesStop}
-use Rattle.pj_run.specs.declared.stops.FilesStop.TheVariants.{Opening}
 use Rattle.std.specs.Prelude.{IfErr, OnOk}
-use Rattle.pj_alone.specs.Calls.{first_file, Call}
+use Rattle.pj_alone.specs.Calls.{first_file}
 use Rattle.pj_alone.specs.Endings.{ending_of, stop_name}
 use Rattle.pj_alone.specs.Promises.{KeepsAll}
 use Rattle.pj_alone.proofs.CallLaws.{few_names, first_is, of_few}
@@ -47,6 +44,7 @@ returns-in-Ok g c = λ call s are.
     keeps_done call c.args.ready c.args.script.now mid new s files are first now
     (λ t told. subst (λ (e : Result (Unit {0}) FilesStop). FilesWrite job files mid first now e) is r.lines t told)
     (λ t. subst (λ (e : Result (Unit {0}) FilesStop). OnOk e (IsEnabled job (files_named files mid))) is (r.enabled t))
+    (λ t. subst (λ (e : Result (Unit {0}) FilesStop). OnOk e (StaysInLimit job (files_named files mid))) is (r.within t))
     (subst (λ (e : Result (Unit {0}) FilesStop). OnOk e (AreReadToEnd files mid new)) is r.last)
     (λ name t end. subst (λ (e : Result (Unit {0}) FilesStop). StayReadToEnd mid new e) is r.keeps name t end)
     (subst (λ (e : Result (Unit {0}) FilesStop). FilesOpened e files mid new) is r.opened)

@@ -10,7 +10,7 @@ use Rattle.pj_report.proofs.LinesWritten.{none_written}
 use Rattle.pj_run.specs.declared.stops.RunStop.{RunStop}
 use Rattle.pj_run.specs.Cuts.{run_cut}
 use Rattle.pj_run.specs.RunEnds.{AreRead, FeedsCause, FeedsEnd}
-use Rattle.pj_run.specs.Runs.{IsEnabled, due_lines, job_by}
+use Rattle.pj_run.specs.Runs.{IsEnabled, due_lines, job_by, StaysInLimit}
 use Rattle.pj_run.proofs.FilesRun.{AreAllOpened, all_opened, open_cause, open_end, open_opened, read_to_end, run_cause, run_end, still_read}
 use Rattle.pj_files.proofs.run.run_files.Given.{Over}
 use Rattle.pj_files.proofs.run.run_files.Goals.{In-Ok-open_feeds}
@@ -46,6 +46,13 @@ returns-in-Ok-ended-clause-enabled g c = λ told.
     let files = (opened g (goal.at.returns-in-Ok-ended-clause-enabled g c).In-Ok-open_feeds).told told in
     subst (λ (fs : List (List ℕ)). IsEnabled job fs) files.1
     (subst (λ (r : Result (Unit {0}) RunStop). OnOk r (IsEnabled job (files_of c.open_feeds.new.feeds.items))) c.in-Ok-ended.is (c.run_feeds-core.ensures.enabled files.0))
+
+pub returns-in-Ok-ended-clause-within : goal.returns-in-Ok-ended-clause-within
+returns-in-Ok-ended-clause-within g c = λ told.
+    let job = job_by c.args.script.now c.args.writing c.args.core in
+    let files = (opened g (goal.at.returns-in-Ok-ended-clause-within g c).In-Ok-open_feeds).told told in
+    subst (λ (fs : List (List ℕ)). StaysInLimit job fs) files.1
+    (subst (λ (r : Result (Unit {0}) RunStop). OnOk r (StaysInLimit job (files_of c.open_feeds.new.feeds.items))) c.in-Ok-ended.is (c.run_feeds-core.ensures.within files.0))
 
 pub returns-in-Ok-ended-clause-last : goal.returns-in-Ok-ended-clause-last
 returns-in-Ok-ended-clause-last g c =

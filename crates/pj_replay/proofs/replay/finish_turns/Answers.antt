@@ -104,6 +104,10 @@ pub returns-in-Ok-go_on-clause-outcome : goal.returns-in-Ok-go_on-clause-outcome
 returns-in-Ok-go_on-clause-outcome g c = λ run history p brings told.
     (c.in-Ok-go_on.ensures.outcome run (behind run history) (going g (goal.at.returns-in-Ok-go_on-clause-outcome g c).In-Ok c.into_core-core.result c.into_core-core.ensures run history p brings)).gathers told
 
+pub returns-in-Ok-go_on-clause-within : goal.returns-in-Ok-go_on-clause-within
+returns-in-Ok-go_on-clause-within g c = λ run history p brings told.
+    (c.in-Ok-go_on.ensures.outcome run (behind run history) (going g (goal.at.returns-in-Ok-go_on-clause-within g c).In-Ok c.into_core-core.result c.into_core-core.ensures run history p brings)).within told
+
 pub returns-in-Ok-go_on-clause-stands : goal.returns-in-Ok-go_on-clause-stands
 returns-in-Ok-go_on-clause-stands g c = λ run history p brings told.
     (c.in-Ok-go_on.ensures.outcome run (behind run history) (going g (goal.at.returns-in-Ok-go_on-clause-stands g c).In-Ok c.into_core-core.result c.into_core-core.ensures run history p brings)).stands told

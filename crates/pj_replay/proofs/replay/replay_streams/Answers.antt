@@ -120,6 +120,11 @@ returns-in-Ok-play-clause-stands g c =
     let a = goal.at.returns-in-Ok-play-clause-stands g c in
     let p = played g a.In-Ok-play in c.finish_turns.ensures.stands (run g a.Start) p.0 p.1 (brings g a.In-Ok-play)
 
+pub returns-in-Ok-play-clause-within : goal.returns-in-Ok-play-clause-within
+returns-in-Ok-play-clause-within g c =
+    let a = goal.at.returns-in-Ok-play-clause-within g c in
+    let p = played g a.In-Ok-play in c.finish_turns.ensures.within (run g a.Start) p.0 p.1 (brings g a.In-Ok-play)
+
 pub returns-in-Ok-play-clause-enabled : goal.returns-in-Ok-play-clause-enabled
 returns-in-Ok-play-clause-enabled g c = λ told. holds_on c.finish_turns.result.ended _ (enabled g (goal.at.returns-in-Ok-play-clause-enabled g c).In-Ok-play told)
 

@@ -90,6 +90,11 @@ returns-clause-stands g c = λ told.
     let a = goal.at.returns-clause-stands g c in
     (c.in_ok-go_on.ensures.outcome (run g a.Start) [] (begun g a.In_ok-accepted)).stands told
 
+pub returns-clause-within : goal.returns-clause-within
+returns-clause-within g c = λ told.
+    let a = goal.at.returns-clause-within g c in
+    (c.in_ok-go_on.ensures.outcome (run g a.Start) [] (begun g a.In_ok-accepted)).within told
+
 pub returns-clause-whole : goal.returns-clause-whole
 returns-clause-whole g c = λ t. c.in_ok-go_on.ensures.whole c.requires.fresh.names t
 
