@@ -1,0 +1,9 @@
+pub mod Rounds
+pub mod Sweeps
+pub mod Drains
+pub mod Writes
+pub mod Passing
+pub mod Bare
+pub mod Brings
+pub mod FedRounds
+pub mod Fed

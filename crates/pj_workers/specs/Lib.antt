@@ -1,0 +1,4 @@
+pub mod Rounds
+pub mod Ends
+pub mod Writes
+pub mod Feeds
