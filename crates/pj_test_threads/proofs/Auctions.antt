@@ -17,7 +17,7 @@ use Rattle.pj_test_threads.specs.Auctions.{HasJoin, IsAuction, IsAuctionPlan}
 
 -- ---- the plan
 
-has-input : (plan : RunPlan) → IsSoundPlan plan.nodes → (join input : ℕ) → HasJoin plan.nodes join → input < 2 → IsInputOf (nodes_of plan) join input
+pub has-input : (plan : RunPlan) → IsSoundPlan plan.nodes → (join input : ℕ) → HasJoin plan.nodes join → input < 2 → IsInputOf (nodes_of plan) join input
 has-input plan sound join input has lt = (
   (let long = nodes-long plan in let there = has.there in omega (arith, there, long)),
   subst (λ (o : Operator). HasInput o input) (sym (operator-is (schemes_of plan.nodes) plan.certs plan.nodes join has.there))
