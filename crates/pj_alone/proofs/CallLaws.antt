@@ -22,16 +22,16 @@ use Rattle.pj_run.specs.declared.stops.RunStop.TheVariants.{ReadFault as RunFaul
 use Rattle.pj_events.specs.declared.events.Stop.{Stop}
 use Rattle.pj_events.specs.declared.events.Stop.TheVariants.{Limit as CoreLimit, NoMemory as CoreMemory}
 use Rattle.pj_script.specs.declared.step.ScriptStep.{ScriptStep}
-use Rattle.pj_alone.specs.Calls.{Call, fault_by, fault_or, file_names, first_by, first_file, job_if, job_of, job_with, operand, plan_bytes, steps_by, steps_or, stream_files, HasToldJob, HasToldPlan, IsTold, IsToldIn}
+use Rattle.pj_prepare.specs.Calls.{Call, fault_by, fault_or, file_names, first_by, first_file, job_if, job_of, job_with, operand, plan_bytes, steps_by, steps_or, stream_files, HasToldJob, HasToldPlan, IsTold, IsToldIn}
 use Rattle.pj_feed.specs.Named.{files_named, AreTold, IsAlone}
 use Rattle.pj_run.specs.Ends.{EndsBefore, EndsAtBytes, EndsAtLimit, EndsCut, EndsCutBefore, EndsCutRefused, EndsRefused, ArrivedOf, EndsCutAtBytes}
 use Rattle.pj_feed.specs.Opened.{OpensFirst, AreReadToEnd, StayOutside}
 use Rattle.pj_report.specs.declared.writer.Form.{Form}
-use Rattle.pj_alone.specs.declared.calls.Options.{Options}
-use Rattle.pj_alone.specs.declared.calls.Prepared.{Prepared}
-use Rattle.pj_alone.specs.Plans.{outline_in, plan_of, IsAsked, SpellsPlan}
-use Rattle.pj_alone.specs.Refusals.{IsRun}
-use Rattle.pj_alone.specs.Scripts.{first_behind, HasSteps}
+use Rattle.pj_prepare.specs.declared.calls.Options.{Options}
+use Rattle.pj_prepare.specs.declared.calls.Prepared.{Prepared}
+use Rattle.pj_prepare.specs.Plans.{outline_in, plan_of, IsAsked, SpellsPlan}
+use Rattle.pj_prepare.specs.Refusals.{IsRun}
+use Rattle.pj_prepare.specs.Scripts.{first_behind, HasSteps}
 use Rattle.pj_report.specs.Report.{status_line}
 use Rattle.pj_run.specs.RunEnds.{FilesEnd, FilesCause, FilesOpened, IsFaultOf, IsLargeFile}
 use Rattle.pj_run.specs.Runs.{due_lines, job_by, refused_line, GoesBeyond, IsScriptOf}
@@ -41,7 +41,7 @@ use Rattle.pj_alone.specs.Promises.{Ends}
 use Rattle.pj_alone.specs.Top.{BeyondLimit, HasFault, IsBuilt, IsLineRefused, IsUnopened, IsTooLarge}
 use Rattle.pj_run.specs.Cuts.{files_cut, run_cut}
 use Rattle.pj_report.specs.Written.{anywhere, Delivered, HandedOn, Leaves, flat, FrontOf, WholeLines}
-use Rattle.pj_alone.proofs.Operands.{alone_among, name_at, operand_at, opens_on, tried_on, unlike_lead}
+use Rattle.pj_prepare.proofs.Operands.{alone_among, name_at, operand_at, opens_on, tried_on, unlike_lead}
 use Rattle.pj_alone.proofs.RunLaws.{same_after, earlier_rose, later_rose}
 use Rattle.pj_feed.proofs.StreamNodes.{count_numbers, few-streams}
 use Rattle.pj_plan.specs.Sound.{IsSoundPlan}

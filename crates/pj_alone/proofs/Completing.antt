@@ -7,7 +7,7 @@ use Rattle.pj_io.specs.States.{FolderState, SinkState}
 use Rattle.pj_report.specs.declared.status.Status.{Status}
 use Rattle.pj_report.specs.declared.status.Status.TheVariants.{Done, Usage, OpenFault, ReadFault, PlanRefused, FileCount, Unsafe, ScriptRefused, WriteFault, NoMemory, Limit}
 use Rattle.pj_report.specs.declared.status.LimitOf.TheVariants.{Plan, Script, Node, File}
-use Rattle.pj_alone.specs.Calls.{nothing, running, checking, making, is_nothing, leading, takes_plan, Task, Call, fault_by, file_names, first_file, job_if, job_of, job_with, operand, script_fault, steps_by, stream_files, IsTold, IsToldIn}
+use Rattle.pj_prepare.specs.Calls.{nothing, running, checking, making, is_nothing, leading, takes_plan, Task, Call, fault_by, file_names, first_file, job_if, job_of, job_with, operand, script_fault, steps_by, stream_files, IsTold, IsToldIn}
 use Rattle.pj_feed.specs.Named.{AreTold}
 use Rattle.pj_run.specs.Jobs.{Job}
 use Rattle.pj_script.specs.declared.step.ScriptStep.{ScriptStep}
@@ -15,10 +15,10 @@ use Rattle.pj_plan.specs.Nodes.{streams_in}
 use Rattle.pj_feed.specs.Feeds.{accepted_of}
 use Rattle.pj_run.specs.Runs.{refused_by, refused_line, run_nodes}
 use Rattle.pj_alone.specs.Completeness.{Completes, NoneRose, RoomFor}
-use Rattle.pj_alone.specs.Refusals.{IsRefused}
+use Rattle.pj_prepare.specs.Refusals.{IsRefused}
 use Rattle.pj_alone.specs.Top.{BeyondLimit, HasFault, IsBuilt, IsFit, IsLineRefused, IsPlayable, CanPlay, IsScriptTooLong, IsTooLarge, IsUnopened, WriteFails}
 use Rattle.pj_alone.proofs.EarlyLaws.{IsOfPlan, fit_never}
-use Rattle.pj_alone.proofs.Operands.{count_leading, operand_at}
+use Rattle.pj_prepare.proofs.Operands.{count_leading, operand_at}
 
 -- when each status comes that is neither done nor want of memory
 pub record HasCauses (answer : Status) (call : Call) (after : FolderState) (old new : SinkState) : Type 0 where

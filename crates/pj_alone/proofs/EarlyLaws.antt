@@ -19,23 +19,23 @@ use Rattle.pj_run.specs.declared.stops.FilesStop.TheVariants.{Opening, Run}
 use Rattle.pj_feed.specs.declared.stops.OpeningStop.TheVariants.{Fault, NoMemory as OpeningMemory}
 use Rattle.pj_run.specs.declared.stops.RunStop.TheVariants.{ReadFault as RunFault, TooLarge, Limit as RunLimit, Refused as RunRefused, WriteFailed, NoMemory as RunMemory, Cut as RunCut, CutRead, CutLarge, CutRefused}
 use Rattle.pj_events.specs.declared.events.Stop.TheVariants.{Limit as CoreLimit, NoMemory as CoreMemory}
-use Rattle.pj_alone.specs.declared.stops.FileStop.TheVariants.{OpenFault as NotOpened, ReadFault as NotRead, TooLong, NoMemory as FileMemory}
-use Rattle.pj_alone.specs.declared.stops.PlanStop.{PlanStop}
-use Rattle.pj_alone.specs.declared.stops.PlanStop.TheVariants.{File as PlanFile, Refused, FileCount as OtherCount, Unsafe as Stuck, NoMemory as PlanMemory}
-use Rattle.pj_alone.specs.Calls.{first_by, nothing, running, checking, making, is_nothing, takes_plan, Task, Call, HasToldPlan, operand, file_names, files_asked, files_for, plan_bytes}
-use Rattle.pj_alone.specs.Plans.{plan_of}
+use Rattle.pj_prepare.specs.declared.stops.FileStop.TheVariants.{OpenFault as NotOpened, ReadFault as NotRead, TooLong, NoMemory as FileMemory}
+use Rattle.pj_prepare.specs.declared.stops.PlanStop.{PlanStop}
+use Rattle.pj_prepare.specs.declared.stops.PlanStop.TheVariants.{File as PlanFile, Refused, FileCount as OtherCount, Unsafe as Stuck, NoMemory as PlanMemory}
+use Rattle.pj_prepare.specs.Calls.{first_by, nothing, running, checking, making, is_nothing, takes_plan, Task, Call, HasToldPlan, operand, file_names, files_asked, files_for, plan_bytes}
+use Rattle.pj_prepare.specs.Plans.{plan_of}
 use Rattle.pj_feed.specs.Opened.{OpensFirst, OpensAtMost, StayOutside}
 use Rattle.pj_judge.specs.declared.safety.Unsafe.{Unsafe as Found}
 use Rattle.pj_judge.specs.Judgments.{AreUnsafeLines}
-use Rattle.pj_alone.specs.Refusals.{HasLines, HasPlan, HasStreams, PlanUnfit, IsRefused, Refuses, RefusesBytes, RefusesPlan, RefusesRead, Unprepared}
-use Rattle.pj_alone.specs.Stops.{plan_status, refusal_text}
+use Rattle.pj_prepare.specs.Refusals.{HasLines, HasPlan, HasStreams, PlanUnfit, IsRefused, Refuses, RefusesBytes, RefusesPlan, RefusesRead, Unprepared}
+use Rattle.pj_prepare.specs.Stops.{plan_status, refusal_text}
 use Rattle.pj_run.specs.Stops.{files_status}
 use Rattle.pj_alone.specs.Endings.{at_words, at_plan, at_opening, ending_of, ComesAt, EarlyLeaves, KeepsLast}
 use Rattle.pj_alone.specs.Promises.{Ends}
 use Rattle.pj_alone.specs.Top.{AnswersRefusal, AnswersScript, HasFault, IsBuilt, IsFit, IsUnopened}
 use Rattle.pj_report.specs.Report.{status_line}
 use Rattle.pj_report.specs.Written.{Delivered}
-use Rattle.pj_alone.proofs.Refusing.{read_as}
+use Rattle.pj_prepare.proofs.Refusing.{read_as}
 
 -- ---- how far the call came
 

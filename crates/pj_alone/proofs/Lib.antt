@@ -3,10 +3,7 @@ pub mod Completing
 pub mod EarlyLaws
 pub mod MadeLaws
 pub mod MemoryLaws
-pub mod NameLaws
-pub mod Operands
 pub mod PlanPromises
-pub mod Refusing
 pub mod RunLaws
 pub mod RunPromises
 pub mod ScriptLaws

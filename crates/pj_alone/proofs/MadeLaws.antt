@@ -35,20 +35,20 @@ use Rattle.pj_make_laws.proofs.Plans.{made_plan_fits}
 use Rattle.pj_plan.specs.declared.node.Outline.{Outline}
 use Rattle.pj_plan_text.specs.PlanRead.{plan_read}
 use Rattle.pj_safety.proofs.Risks.{risk_is_unsafe}
-use Rattle.pj_alone.specs.declared.stops.PlanStop.{PlanStop}
-use Rattle.pj_alone.specs.declared.stops.PlanStop.TheVariants.{File as PlanFile, Refused, FileCount as OtherCount, Unsafe as Stuck, NoMemory as PlanMemory}
-use Rattle.pj_alone.specs.Refusals.{BytesRefused, RefusesPlan}
+use Rattle.pj_prepare.specs.declared.stops.PlanStop.{PlanStop}
+use Rattle.pj_prepare.specs.declared.stops.PlanStop.TheVariants.{File as PlanFile, Refused, FileCount as OtherCount, Unsafe as Stuck, NoMemory as PlanMemory}
+use Rattle.pj_prepare.specs.Refusals.{BytesRefused, RefusesPlan}
 use Rattle.pj_run.proofs.OutputLaws.{outputs_answer, outputs_lawful, outputs_puncts}
 use Rattle.pj_run.proofs.Planned.{IsPlanned}
 use Rattle.pj_words.specs.Request.{IsMake as IsMakeable}
-use Rattle.pj_alone.specs.declared.calls.Ready.{Ready}
-use Rattle.pj_alone.specs.declared.calls.Ready.TheVariants.{Make}
-use Rattle.pj_alone.specs.Calls.{is_nothing, making, running, takes_plan, Call}
+use Rattle.pj_prepare.specs.declared.calls.Ready.{Ready}
+use Rattle.pj_prepare.specs.declared.calls.Ready.TheVariants.{Make}
+use Rattle.pj_prepare.specs.Calls.{is_nothing, making, running, takes_plan, Call}
 use Rattle.pj_alone.specs.Endings.{at_made, ending_of, ComesAt}
 use Rattle.pj_alone.specs.Made.{made_files, made_job, made_lines, IsMade, IsMemory, LinesLeft, MadeRun}
 use Rattle.pj_alone.specs.Promises.{Ends, KeepsAll, WritesResults}
 use Rattle.pj_alone.proofs.Completing.{completes_by}
-use Rattle.pj_alone.specs.Ready.{IsMakeReady, IsReadyFor}
+use Rattle.pj_prepare.specs.Ready.{IsMakeReady, IsReadyFor}
 use Rattle.pj_alone.specs.Top.{AnswersRefusal, IsFit, IsPlayable, CanPlay, WriteFails, KeepsLimit}
 use Rattle.pj_alone.proofs.EarlyLaws.{IsOfPlan, of_plan}
 use Rattle.pj_alone.proofs.RunLaws.{earlier_rose, later_rose, same_after}

@@ -15,13 +15,13 @@ use Rattle.pj_run.specs.declared.stops.FilesStop.{FilesStop}
 use Rattle.pj_run.specs.declared.stops.FilesStop.TheVariants.{Opening, Run}
 use Rattle.pj_run.specs.declared.stops.RunStop.TheVariants.{ReadFault as RunFault, TooLarge, Limit as RunLimit, Refused as RunRefused, WriteFailed, NoMemory as RunMemory, Cut as RunCut, CutRead, CutLarge, CutRefused}
 use Rattle.pj_run.proofs.WholeLaws.{none_wrote}
-use Rattle.pj_alone.specs.declared.stops.FileStop.TheVariants.{OpenFault as NotOpened, ReadFault as NotRead, TooLong, NoMemory as FileMemory}
-use Rattle.pj_alone.specs.declared.stops.PlanStop.{PlanStop}
-use Rattle.pj_alone.specs.declared.stops.PlanStop.TheVariants.{File as PlanFile, Refused, FileCount as OtherCount, Unsafe as Stuck, NoMemory as PlanMemory}
-use Rattle.pj_alone.specs.declared.stops.StepsStop.{StepsStop}
-use Rattle.pj_alone.specs.declared.stops.StepsStop.TheVariants.{File as ScriptFile, Refused as LineRefused, NoMemory as StepsMemory}
+use Rattle.pj_prepare.specs.declared.stops.FileStop.TheVariants.{OpenFault as NotOpened, ReadFault as NotRead, TooLong, NoMemory as FileMemory}
+use Rattle.pj_prepare.specs.declared.stops.PlanStop.{PlanStop}
+use Rattle.pj_prepare.specs.declared.stops.PlanStop.TheVariants.{File as PlanFile, Refused, FileCount as OtherCount, Unsafe as Stuck, NoMemory as PlanMemory}
+use Rattle.pj_prepare.specs.declared.stops.StepsStop.{StepsStop}
+use Rattle.pj_prepare.specs.declared.stops.StepsStop.TheVariants.{File as ScriptFile, Refused as LineRefused, NoMemory as StepsMemory}
 use Rattle.pj_alone.specs.Endings.{MemoryLeaves}
-use Rattle.pj_alone.specs.Stops.{plan_status, refusal_text, steps_status}
+use Rattle.pj_prepare.specs.Stops.{plan_status, refusal_text, steps_status}
 
 -- whole lines, and then the status' line
 then_line : (first now after : SinkState) → first.faults ≤ now.faults → (IsTrue after.told → WroteLines first.written now.written) → Delivered (status_line [] NoMemory) now after → MemoryLeaves first after

@@ -8,12 +8,12 @@ use Rattle.pj_report.specs.declared.status.Status.{Status}
 use Rattle.pj_report.specs.declared.status.Status.TheVariants.{Done, Usage, PlanRefused, FileCount, Unsafe, ScriptRefused, WriteFault, Limit}
 use Rattle.pj_report.specs.declared.status.LimitOf.TheVariants.{Plan, Script, Node, File}
 use Rattle.pj_report.specs.Written.{Delivered, HandedOn}
-use Rattle.pj_alone.specs.declared.stops.PlanStop.{PlanStop}
-use Rattle.pj_alone.specs.Calls.{is_nothing, Call}
+use Rattle.pj_prepare.specs.declared.stops.PlanStop.{PlanStop}
+use Rattle.pj_prepare.specs.Calls.{is_nothing, Call}
 use Rattle.pj_alone.specs.Endings.{ending_of}
 use Rattle.pj_alone.specs.Promises.{KeepsAll}
-use Rattle.pj_alone.specs.Refusals.{Unprepared}
-use Rattle.pj_alone.specs.Stops.{plan_status, refusal_text}
+use Rattle.pj_prepare.specs.Refusals.{Unprepared}
+use Rattle.pj_prepare.specs.Stops.{plan_status, refusal_text}
 use Rattle.pj_alone.proofs.Completing.{completes_by}
 use Rattle.pj_alone.proofs.EarlyLaws.{IsNoRefusal, answers_early, answers_script_early, early_lines, early_never, ended_early, fault_early, refused_early, unopened_early}
 use Rattle.pj_alone.proofs.MemoryLaws.{early_memory}

@@ -1,6 +1,6 @@
 -- What a run leaves written.
 use Rattle.pj_run.specs.Jobs.{Job}
-use Rattle.std.proofs.Common.{◌≡◌, ◌≤◌, ℕ, true, inl, inr, List, [], ◌∷◌, ◌++◌, length, Some, IsTrue, refl, ap, ◌∙◌, subst, append-nil, arith}
+use Rattle.std.proofs.Common.{◌≡◌, ◌≤◌, ℕ, suc, true, inl, inr, List, [], ◌∷◌, ◌++◌, length, get_or, Some, IsTrue, refl, ap, ◌∙◌, subst, append-nil, arith}
 use Rattle.std.specs.Prelude.{nat_le}
 use Rattle.std.specs.List.{list_all}
 use Rattle.std.proofs.lemmas.Bool.{and_parts}
@@ -11,8 +11,14 @@ use Rattle.pj_pattern.specs.declared.element.Element.{Element}
 use Rattle.pj_events.specs.declared.events.Out.{Out}
 use Rattle.pj_events.specs.Outcomes.{elements_out}
 use Rattle.pj_report.specs.Forms.{form_lines}
-use Rattle.pj_alone.specs.Calls.{Call, job_of, stream_files}
+use Rattle.pj_prepare.specs.Calls.{Call, job_of, stream_files}
+use Rattle.pj_alone.specs.Endings.{stream_name}
+use Rattle.pj_plan.specs.declared.node.PlanNode.{PlanNode}
+use Rattle.pj_plan.specs.Canonical.{node_name}
 use Rattle.pj_plan.specs.Names.{is_name_byte}
+use Rattle.pj_plan.specs.Nodes.{streams_of, streams_in}
+use Rattle.pj_feed.proofs.StreamNodes.{count_numbers, name-at}
+use Rattle.pj_report.proofs.NodeNames.{past_names}
 use Rattle.pj_run.specs.PlanNames.{is_short}
 use Rattle.pj_run.specs.Runs.{outs_of, outputs_of, report_of, run_lines, IsEnabled}
 use Rattle.pj_report.specs.Written.{flat, Delivered, holding}
@@ -57,3 +63,13 @@ earlier_rose line first old new le delivered told = elim (delivered told) [
 
 pub name_short : (xs : List ℕ) → is_short xs ≡ true → length xs ≤ 32
 name_short xs e = let p = (and_parts (nat_le (length xs) 32) (list_all is_name_byte xs) e).0 in grind (arith, nat_tests)
+
+-- the name of a node is that of the stream that it is
+pub named_stream : (nodes : List PlanNode) (s number : ℕ) → suc s ≤ length (streams_of nodes) → number ≡ get_or (streams_of nodes) s number → node_name nodes number ≡ stream_name (streams_in nodes) s
+named_stream nodes s number within is =
+    let count = count_numbers nodes in
+    ap (node_name nodes) is ∙ name-at nodes s number (omega (arith, within, count))
+
+-- there is no stream of this number
+pub unnamed_stream : (nodes : List PlanNode) (s : ℕ) → length (streams_of nodes) ≤ s → [] ≡ stream_name (streams_in nodes) s
+unnamed_stream nodes s past = let e = count_numbers nodes in past_names (streams_in nodes) s (omega (arith, past, e))

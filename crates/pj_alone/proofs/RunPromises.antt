@@ -21,12 +21,12 @@ use Rattle.pj_run.specs.Whole.{LeavesWhole}
 use Rattle.pj_run.proofs.OutputLaws.{outputs_lawful, outputs_answer, outputs_puncts}
 use Rattle.pj_run.proofs.Planned.{IsPlanned, new_planned}
 use Rattle.pj_script.specs.declared.step.ScriptStep.{ScriptStep}
-use Rattle.pj_alone.specs.declared.calls.Prepared.{Prepared}
-use Rattle.pj_alone.specs.Calls.{making, running, is_nothing, leading, script_names, Call, file_names, first_file, job_of, operand, script_fault, stream_files, takes_plan, HasToldJob, IsTold, IsToldIn, Task}
+use Rattle.pj_prepare.specs.declared.calls.Prepared.{Prepared}
+use Rattle.pj_prepare.specs.Calls.{making, running, is_nothing, leading, script_names, Call, file_names, first_file, job_of, operand, script_fault, stream_files, takes_plan, HasToldJob, IsTold, IsToldIn, Task}
 use Rattle.pj_alone.specs.Endings.{ending_of, stop_name, AreSteps, IsScriptRead}
-use Rattle.pj_alone.specs.Plans.{outline_in}
+use Rattle.pj_prepare.specs.Plans.{outline_in}
 use Rattle.pj_alone.specs.Promises.{KeepsAll}
-use Rattle.pj_alone.specs.Scripts.{HasSteps, IsPrepared, IsSetUp, ReadsScript, SpellsSteps}
+use Rattle.pj_prepare.specs.Scripts.{HasSteps, IsPrepared, IsSetUp, ReadsScript, SpellsSteps}
 use Rattle.pj_io.specs.Folders.{NoneFalls}
 use Rattle.pj_feed.proofs.Names.{same_or_other}
 use Rattle.pj_feed.proofs.Outside.{stay_then, stay_wider}
@@ -35,7 +35,7 @@ use Rattle.pj_alone.proofs.CallLaws.{all_read, are_steps, beyond, built, ended_d
 use Rattle.pj_alone.proofs.Completing.{completes_by}
 use Rattle.pj_alone.proofs.EarlyLaws.{answers_built, no_refusal, stop_never, IsNoStop}
 use Rattle.pj_alone.proofs.MemoryLaws.{stopped_memory}
-use Rattle.pj_alone.proofs.Operands.{count_leading, opens_on}
+use Rattle.pj_prepare.proofs.Operands.{count_leading, opens_on}
 use Rattle.pj_alone.proofs.RunLaws.{ran}
 use Rattle.pj_alone.proofs.StaysLaws.{IsReady, never_done, never_stopped}
 

@@ -13,22 +13,22 @@ use Rattle.pj_feed.specs.Named.{IsAlone}
 use Rattle.pj_feed.specs.Opened.{OpensFirst, OpensAtMost, StayOutside}
 use Rattle.pj_run.specs.Jobs.{Job}
 use Rattle.pj_script.specs.Reading.{script_read}
-use Rattle.pj_alone.specs.declared.calls.Prepared.{Prepared}
-use Rattle.pj_alone.specs.declared.stops.FileStop.TheVariants.{OpenFault as NotOpened, ReadFault as NotRead, TooLong, NoMemory as FileMemory}
-use Rattle.pj_alone.specs.declared.stops.StepsStop.{StepsStop}
-use Rattle.pj_alone.specs.declared.stops.StepsStop.TheVariants.{File as ScriptFile, Refused as LineRefused, NoMemory as StepsMemory}
-use Rattle.pj_alone.specs.Calls.{first_by, is_nothing, leading, Call, fault_by, fault_or, file_names, job_if, job_of, job_with, operand, script_fault, steps_by, HasToldJob, IsToldIn}
+use Rattle.pj_prepare.specs.declared.calls.Prepared.{Prepared}
+use Rattle.pj_prepare.specs.declared.stops.FileStop.TheVariants.{OpenFault as NotOpened, ReadFault as NotRead, TooLong, NoMemory as FileMemory}
+use Rattle.pj_prepare.specs.declared.stops.StepsStop.{StepsStop}
+use Rattle.pj_prepare.specs.declared.stops.StepsStop.TheVariants.{File as ScriptFile, Refused as LineRefused, NoMemory as StepsMemory}
+use Rattle.pj_prepare.specs.Calls.{first_by, is_nothing, leading, Call, fault_by, fault_or, file_names, job_if, job_of, job_with, operand, script_fault, steps_by, HasToldJob, IsToldIn}
 use Rattle.pj_alone.specs.Endings.{at_opening, at_script, ending_of, ComesAt, EarlyLeaves, IsNoStepAt, KeepsLast}
-use Rattle.pj_alone.specs.Plans.{outline_in}
+use Rattle.pj_prepare.specs.Plans.{outline_in}
 use Rattle.pj_alone.specs.Promises.{Ends, KeepsAll}
-use Rattle.pj_alone.specs.Scripts.{IsPrepared, StepsCause}
-use Rattle.pj_alone.specs.Stops.{steps_status}
+use Rattle.pj_prepare.specs.Scripts.{IsPrepared, StepsCause}
+use Rattle.pj_prepare.specs.Stops.{steps_status}
 use Rattle.pj_alone.specs.Top.{AnswersScript, HasFault, IsBuilt, IsLineRefused, IsScriptTooLong, IsUnopened, RefusesScript}
 use Rattle.pj_alone.proofs.CallLaws.{built}
 use Rattle.pj_alone.proofs.Completing.{completes_by}
 use Rattle.pj_alone.proofs.EarlyLaws.{IsOfPlan, answers_built, of_plan}
 use Rattle.pj_alone.proofs.MemoryLaws.{steps_memory}
-use Rattle.pj_alone.proofs.Operands.{opens_on, tried_on, unlike_lead}
+use Rattle.pj_prepare.proofs.Operands.{opens_on, tried_on, unlike_lead}
 use Rattle.pj_alone.proofs.StaysLaws.{never_scripted}
 
 -- ---- its statuses

@@ -23,11 +23,11 @@ use Rattle.pj_report.specs.declared.status.Status.TheVariants.{Done, Usage, Open
 use Rattle.pj_run.specs.declared.stops.FilesStop.{FilesStop}
 use Rattle.pj_run.specs.declared.stops.FilesStop.TheVariants.{Opening, Run}
 use Rattle.pj_feed.specs.declared.stops.OpeningStop.TheVariants.{Fault, NoMemory as OpeningMemory}
-use Rattle.pj_alone.specs.declared.stops.PlanStop.{PlanStop}
-use Rattle.pj_alone.specs.declared.stops.PlanStop.TheVariants.{File as PlanFile, Refused, FileCount as OtherCount, Unsafe as Stuck, NoMemory as PlanMemory}
-use Rattle.pj_alone.specs.declared.stops.FileStop.TheVariants.{OpenFault as NotOpened, ReadFault as NotRead, TooLong, NoMemory as FileMemory}
+use Rattle.pj_prepare.specs.declared.stops.PlanStop.{PlanStop}
+use Rattle.pj_prepare.specs.declared.stops.PlanStop.TheVariants.{File as PlanFile, Refused, FileCount as OtherCount, Unsafe as Stuck, NoMemory as PlanMemory}
+use Rattle.pj_prepare.specs.declared.stops.FileStop.TheVariants.{OpenFault as NotOpened, ReadFault as NotRead, TooLong, NoMemory as FileMemory}
 use Rattle.pj_run.specs.declared.stops.RunStop.TheVariants.{ReadFault as RunFault, TooLarge, Limit as RunLimit, Refused as RunRefused, WriteFailed, NoMemory as RunMemory, Cut as RunCut, CutRead, CutLarge, CutRefused}
-use Rattle.pj_alone.specs.Calls.{Call, job_of, stream_files}
+use Rattle.pj_prepare.specs.Calls.{Call, job_of, stream_files}
 use Rattle.pj_run.specs.PlanNames.{HasShortNames, are_short}
 use Rattle.pj_report.specs.Report.{status_line}
 use Rattle.pj_report.specs.declared.writer.Form.{Form}
@@ -39,10 +39,10 @@ use Rattle.pj_events.specs.declared.events.Out.TheVariants.{Tuple as RowOut, Pun
 use Rattle.pj_events.specs.Outcomes.{elements_out}
 use Rattle.pj_pattern.specs.declared.element.Element.TheVariants.{Tuple, Punct}
 use Rattle.pj_run.specs.Runs.{due_lines, due_where, outs_of, outputs_of, refused_line, report_of, run_lines}
-use Rattle.pj_alone.specs.Refusals.{HasLines}
-use Rattle.pj_alone.specs.declared.stops.StepsStop.{StepsStop}
-use Rattle.pj_alone.specs.declared.stops.StepsStop.TheVariants.{File as ScriptFile, Refused as LineRefused, NoMemory as StepsMemory}
-use Rattle.pj_alone.specs.Stops.{refusal_text, steps_status}
+use Rattle.pj_prepare.specs.Refusals.{HasLines}
+use Rattle.pj_prepare.specs.declared.stops.StepsStop.{StepsStop}
+use Rattle.pj_prepare.specs.declared.stops.StepsStop.TheVariants.{File as ScriptFile, Refused as LineRefused, NoMemory as StepsMemory}
+use Rattle.pj_prepare.specs.Stops.{refusal_text, steps_status}
 use Rattle.pj_run.specs.Stops.{files_status, stop_line}
 use Rattle.pj_alone.specs.Endings.{limit_name, stop_name}
 use Rattle.pj_files.specs.Staying.{StaysRight}

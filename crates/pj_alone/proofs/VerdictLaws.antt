@@ -12,20 +12,20 @@ use Rattle.pj_feed.specs.Opened.{AreReadToEnd, IsReadToEnd, OpensFirst, StayOuts
 use Rattle.pj_report.specs.declared.status.Status.{Status}
 use Rattle.pj_report.specs.declared.status.Status.TheVariants.{Done, Usage, OpenFault, ReadFault, PlanRefused, FileCount, Unsafe, ScriptRefused, WriteFault, NoMemory, Limit}
 use Rattle.pj_report.specs.Written.{Delivered, FrontOf, HandedOn}
-use Rattle.pj_alone.specs.Calls.{checking, making, running, is_nothing, takes_plan, Call, HasReadPlan, HasToldPlan, files_asked, operand, plan_bytes}
+use Rattle.pj_prepare.specs.Calls.{checking, making, running, is_nothing, takes_plan, Call, HasReadPlan, HasToldPlan, files_asked, operand, plan_bytes}
 use Rattle.pj_alone.specs.Endings.{at_verdict, ending_of, ComesAt, VerdictLeaves}
 use Rattle.pj_alone.specs.Promises.{Ends, KeepsAll, WritesResults}
 use Rattle.pj_alone.proofs.Completing.{completes_by}
-use Rattle.pj_alone.specs.declared.calls.Prepared.{Prepared}
-use Rattle.pj_alone.specs.declared.calls.Ready.{Ready}
-use Rattle.pj_alone.specs.declared.calls.Ready.TheVariants.{Run, Check}
-use Rattle.pj_alone.specs.Ready.{IsCheckReady, IsReadyFor, IsRunReady}
-use Rattle.pj_alone.specs.Refusals.{HasStreams, IsRefused, Refuses}
-use Rattle.pj_alone.specs.Stops.{verdict_status}
+use Rattle.pj_prepare.specs.declared.calls.Prepared.{Prepared}
+use Rattle.pj_prepare.specs.declared.calls.Ready.{Ready}
+use Rattle.pj_prepare.specs.declared.calls.Ready.TheVariants.{Run, Check}
+use Rattle.pj_prepare.specs.Ready.{IsCheckReady, IsReadyFor, IsRunReady}
+use Rattle.pj_prepare.specs.Refusals.{HasStreams, IsRefused, Refuses}
+use Rattle.pj_prepare.specs.Stops.{verdict_status}
 use Rattle.pj_alone.specs.Top.{AnswersRefusal, IsFit, IsPlayable, CanPlay, WriteFails, KeepsLimit}
 use Rattle.pj_report.specs.declared.status.LimitOf.TheVariants.{Plan, Script, Node, File}
 use Rattle.pj_alone.proofs.EarlyLaws.{IsOfPlan, of_plan, asked_by, fit_never, is_unfit, refused_alone}
-use Rattle.pj_alone.proofs.Refusing.{read_as}
+use Rattle.pj_prepare.proofs.Refusing.{read_as}
 
 -- ---- what is ready
 

@@ -4,7 +4,7 @@ use Rattle.pj_io.specs.Causes.{Rose}
 use Rattle.pj_io.specs.States.{FolderState, SinkState}
 use Rattle.pj_report.specs.declared.status.Status.{Status}
 use Rattle.pj_report.specs.declared.status.Status.TheVariants.{Done, NoMemory}
-use Rattle.pj_alone.specs.Calls.{nothing, running, checking, making, Task, Call, job_of, IsTold, operand, stream_files}
+use Rattle.pj_prepare.specs.Calls.{nothing, running, checking, making, Task, Call, job_of, IsTold, operand, stream_files}
 use Rattle.pj_run.specs.Jobs.{Job}
 use Rattle.pj_run.specs.Runs.{elements_to}
 use Rattle.pj_alone.specs.Top.{IsFit, IsPlayable}

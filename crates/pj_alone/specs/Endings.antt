@@ -24,9 +24,9 @@ use Rattle.pj_run.specs.Ends.{EndsBefore, EndsAtBytes, EndsAtLimit, EndsCut, End
 use Rattle.pj_run.specs.Jobs.{Job, HasScript}
 use Rattle.pj_run.specs.Runs.{due_lines, refused_line}
 use Rattle.pj_run.specs.Whole.{WroteLines}
-use Rattle.pj_alone.specs.Calls.{checking, making, running, Call, first_file, job_of, script_fault, HasToldJob, IsTold, HasToldPlan, operand, file_names, plan_bytes, stream_files}
+use Rattle.pj_prepare.specs.Calls.{checking, making, running, Call, first_file, job_of, script_fault, HasToldJob, IsTold, HasToldPlan, operand, file_names, plan_bytes, stream_files}
 use Rattle.pj_alone.specs.Made.{made_lines, Left, LinesLeft}
-use Rattle.pj_alone.specs.Plans.{plan_of, SpellsPlan}
+use Rattle.pj_prepare.specs.Plans.{plan_of, SpellsPlan}
 use Rattle.pj_alone.specs.Top.{IsBuilt}
 
 -- A call and the status that it answers, what the folder tells of itself behind it, and what the sink told before and tells behind

@@ -1,11 +1,5 @@
-pub mod Calls
 pub mod Completeness
 pub mod Endings
 pub mod Made
-pub mod Plans
 pub mod Promises
-pub mod Ready
-pub mod Refusals
-pub mod Scripts
-pub mod Stops
 pub mod Top

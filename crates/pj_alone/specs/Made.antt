@@ -17,11 +17,11 @@ use Rattle.pj_report.specs.Report.{make_line, status_line}
 use Rattle.pj_report.specs.Written.{flat, holding, Delivered, FrontOf, WholeLines}
 use Rattle.pj_run.specs.Jobs.{Job}
 use Rattle.pj_run.specs.Runs.{job_in, outs_of, run_lines, IsNewCore, IsAnswer, ArePunctuations, AreLawful, AreTallies}
-use Rattle.pj_alone.specs.declared.calls.Prepared.{Prepared}
+use Rattle.pj_prepare.specs.declared.calls.Prepared.{Prepared}
 use Rattle.pj_alone.specs.declared.made.MadeSource.{MadeSource}
-use Rattle.pj_alone.specs.declared.stops.PlanStop.{PlanStop}
-use Rattle.pj_alone.specs.declared.stops.PlanStop.TheVariants.{File as PlanFile, Refused, FileCount as OtherCount, Unsafe as Stuck, NoMemory as PlanMemory}
-use Rattle.pj_alone.specs.Calls.{job_with, make_options}
+use Rattle.pj_prepare.specs.declared.stops.PlanStop.{PlanStop}
+use Rattle.pj_prepare.specs.declared.stops.PlanStop.TheVariants.{File as PlanFile, Refused, FileCount as OtherCount, Unsafe as Stuck, NoMemory as PlanMemory}
+use Rattle.pj_prepare.specs.Calls.{job_with, make_options}
 
 -- ---- what is run
 

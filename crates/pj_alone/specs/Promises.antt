@@ -7,11 +7,11 @@ use Rattle.pj_report.specs.declared.status.LimitOf.TheVariants.{Plan, Script, No
 use Rattle.pj_report.specs.Written.{HandedOn}
 use Rattle.pj_run.specs.Runs.{IsAnswer, ArePunctuations, AreLawful, AreTallies}
 use Rattle.pj_safety.specs.declared.risk.PlanRisk.{PlanRisk}
-use Rattle.pj_alone.specs.Calls.{nothing, running, checking, making, is_nothing, Task}
+use Rattle.pj_prepare.specs.Calls.{nothing, running, checking, making, is_nothing, Task}
 use Rattle.pj_alone.specs.Completeness.{Completes}
 use Rattle.pj_alone.specs.Endings.{Ending, EndsAt, MemoryLeaves, Stage}
 use Rattle.pj_alone.specs.Made.{IsMade}
-use Rattle.pj_alone.specs.Refusals.{IsRefused}
+use Rattle.pj_prepare.specs.Refusals.{IsRefused}
 use Rattle.pj_alone.specs.Top.{AnswersRefusal, AnswersScript, BeyondLimit, HasFault, IsFit, IsLineRefused, IsPlayable, IsScriptTooLong, IsTooLarge, IsUnopened, NeverRetracted, OneThreadBytes, Ran, WriteFails, KeepsLimit}
 
 -- ---- a run that is done

@@ -12,11 +12,11 @@ use Rattle.pj_events.specs.Outcomes.{elements_out}
 use Rattle.pj_report.specs.declared.status.Status.{Status}
 use Rattle.pj_report.specs.declared.status.Status.TheVariants.{OpenFault, ReadFault, ScriptRefused, NoMemory, Limit}
 use Rattle.pj_report.specs.declared.status.LimitOf.TheVariants.{Script}
-use Rattle.pj_alone.specs.Calls.{nothing, running, checking, making, Task, Call, first_file, job_of, leading, script_fault, IsTold, HasToldJob, HasToldPlan, operand, file_names, plan_bytes, stream_files}
+use Rattle.pj_prepare.specs.Calls.{nothing, running, checking, making, Task, Call, first_file, job_of, leading, script_fault, IsTold, HasToldJob, HasToldPlan, operand, file_names, plan_bytes, stream_files}
 use Rattle.pj_feed.specs.Named.{AreTold}
 use Rattle.pj_feed.specs.Opened.{OpensFirst}
-use Rattle.pj_alone.specs.Plans.{plan_of}
-use Rattle.pj_alone.specs.Refusals.{Refuses}
+use Rattle.pj_prepare.specs.Plans.{plan_of}
+use Rattle.pj_prepare.specs.Refusals.{Refuses}
 use Rattle.pj_report.specs.Forms.{form_lines}
 use Rattle.pj_files.specs.Staying.{StaysRight}
 use Rattle.pj_run.specs.Jobs.{Job}

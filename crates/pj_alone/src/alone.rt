@@ -1,15 +1,15 @@
 // The call of a request.
 ghost use Rattle.pj_words.specs.Request.{IsRequest};
-ghost use Rattle.pj_alone.specs.Calls.{call_for};
+ghost use Rattle.pj_prepare.specs.Calls.{call_for};
 ghost use Rattle.pj_alone.specs.Endings.{ending_of};
 ghost use Rattle.pj_alone.specs.Promises.{Answers, AnswersRefusals, AnswersScripts, AnswersUsage, Ends, HandsOn, IsCompleted, IsRightCount, IsRightFault, IsRightFileLimit, IsRightLimit, IsRightlyDone, IsRightlyUnsafe, IsRightOpenFault, IsRightPlanLimit, IsRightReadFault, IsRightRefusal, IsRightScriptLimit, IsRightUsage, IsRightWriteFault, KeepsAll, LeavesLines, Makes, Punctuates, ReadsToEnd, RetractsNothing, StaysLawful, Tallies, WritesOneThread};
 
-use crate::calls::{Ready, prepare};
 use crate::made::write_made;
 use crate::refusal::write_refusal;
 use crate::run::write_run;
 use crate::verdict::write_verdict;
 use pj_io::{Folder, Sink};
+use pj_prepare::{Ready, prepare};
 use pj_report::Status;
 use pj_words::Request;
 use std::alloc::Global;

@@ -3,14 +3,9 @@
 #![tactic(auto)]
 
 mod alone;
-mod calls;
 mod made;
-mod plan_file;
 mod refusal;
 mod run;
-mod script;
-mod status;
-mod stops;
 mod verdict;
 
 pub use alone::run_alone;

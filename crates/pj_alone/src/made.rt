@@ -4,14 +4,13 @@ ghost use Rattle.pj_make.specs.Inputs.{plan_text};
 ghost use Rattle.pj_report.specs.Written.{HandedOn};
 ghost use Rattle.pj_run.specs.Runs.{run_lines};
 ghost use Rattle.pj_words.specs.Request.{IsMake as IsMakeable};
-ghost use Rattle.pj_alone.specs.Calls.{make_options as options_of_make};
+ghost use Rattle.pj_prepare.specs.Calls.{make_options as options_of_make};
 ghost use Rattle.pj_alone.specs.Made.{made_files, made_job, made_lines, IsMadeReady, IsMadeSource, IsMemory, LinesLeft, MadeRun};
 
-use crate::calls::{Options, Prepared, spelled_ready};
-use crate::stops::PlanStop;
 use pj_files::{Ran, run_files};
 use pj_io::{Sink, SteadyFolder};
 use pj_make::{Made, make};
+use pj_prepare::{Options, PlanStop, Prepared, spelled_ready};
 use pj_report::{Form, Status, WriteStop, write_make, write_status};
 use pj_run::write_stop;
 use pj_value::{Bytes, List, NoMemory};

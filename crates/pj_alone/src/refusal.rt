@@ -1,10 +1,10 @@
 // What is written where there is no plan to run.
 ghost use Rattle.std.specs.Prelude.{◌≤◌, IsTrue};
 ghost use Rattle.pj_report.specs.Written.{Delivered, HandedOn};
-ghost use Rattle.pj_alone.specs.Stops.{refusal_text};
+ghost use Rattle.pj_prepare.specs.Stops.{refusal_text};
 
-use crate::stops::PlanStop;
 use pj_io::Sink;
+use pj_prepare::PlanStop;
 use pj_report::{write_lines, write_status};
 
 /// Writes the line of why there is no plan, or the two lines of an unsafe plan, each by one `write_all`, and hands on what

@@ -2,16 +2,15 @@
 ghost use Rattle.std.specs.Prelude.{◌≡◌};
 ghost use Rattle.pj_io.specs.States.{FolderState};
 ghost use Rattle.pj_plan.specs.Nodes.{streams_in};
-ghost use Rattle.pj_alone.specs.Calls.{call_for, file_names, Call};
+ghost use Rattle.pj_prepare.specs.Calls.{call_for, file_names, Call};
 ghost use Rattle.pj_alone.specs.Endings.{ending_of, stream_name as name_of_stream, stop_name as stop_name_of};
 ghost use Rattle.pj_alone.specs.Promises.{KeepsAll};
-ghost use Rattle.pj_alone.specs.Scripts.{first_behind, IsPrepared, IsSetUp, WherePrepared, WhereSetUp};
+ghost use Rattle.pj_prepare.specs.Scripts.{first_behind, IsPrepared, IsSetUp, WherePrepared, WhereSetUp};
 
-use crate::calls::{Prepared, files_in};
-use crate::script::read_steps;
 use pj_files::{Ran, run_files};
 use pj_io::{Folder, Sink};
 use pj_plan::Plan;
+use pj_prepare::{Prepared, files_in, read_steps};
 use pj_report::{LimitOf, Status, write_status};
 use pj_run::write_stop;
 use pj_script::ScriptStep;
@@ -101,7 +100,7 @@ fn stop_name(plan: &Plan, status: Status) -> &[u8]
 }
 
 // The name of a stream, by its number.
-#[tactic(auto, using(crate::proofs::NameLaws::named_stream, crate::proofs::NameLaws::unnamed_stream))]
+#[tactic(auto, using(crate::proofs::RunLaws::named_stream, crate::proofs::RunLaws::unnamed_stream))]
 fn stream_name(plan: &Plan, stream: u32) -> &[u8]
     ensures { result.now ≡ name_of_stream (streams_in plan.now.nodes) stream }
 {

@@ -2,7 +2,7 @@
 ghost use Rattle.std.specs.Prelude.{◌≡◌, ◌≤◌, ◌+◌, [], Bool, IsTrue};
 ghost use Rattle.pj_report.specs.Written.{HandedOn};
 ghost use Rattle.pj_alone.specs.Endings.{VerdictLeaves};
-ghost use Rattle.pj_alone.specs.Stops.{verdict_status as status_of_verdict};
+ghost use Rattle.pj_prepare.specs.Stops.{verdict_status as status_of_verdict};
 
 use pj_io::{Failed, Sink};
 use pj_judge::check_text;

@@ -6,7 +6,7 @@ use Rattle.std.specs.declared.alloc.Global.{Global}
 use Rattle.pj_io.specs.States.{FolderState}
 use Rattle.pj_words.specs.declared.request.Request.{Request}
 use Rattle.pj_words.specs.Request.{request_in}
-use Rattle.pj_alone.specs.Calls.{Call, call_by, wanted}
+use Rattle.pj_prepare.specs.Calls.{Call, call_by, wanted}
 
 -- what the words ask for
 abbrev pub asked_in : List (String Global) → Option Request

@@ -5,10 +5,10 @@ use Rattle.pj_feed.specs.Opened.{OpensFirst, StayOutside}
 use Rattle.pj_report.specs.declared.status.Status.{Status}
 use Rattle.pj_words.specs.declared.request.Request.{Request}
 use Rattle.pj_words.specs.declared.request.Request.TheVariants.{Run as RunRequest, Replay, Check as CheckRequest, Make as MakeRequest}
-use Rattle.pj_alone.specs.Calls.{is_nothing, call_for}
+use Rattle.pj_prepare.specs.Calls.{is_nothing, call_for}
 use Rattle.pj_alone.specs.Endings.{ending_of}
 use Rattle.pj_alone.specs.Promises.{KeepsAll}
-use Rattle.pj_alone.specs.Scripts.{IsPrepared}
+use Rattle.pj_prepare.specs.Scripts.{IsPrepared}
 use Rattle.pj_alone.proofs.MadeLaws.{keeps_make, ready_make}
 use Rattle.pj_alone.proofs.PlanPromises.{keeps_refused}
 use Rattle.pj_alone.proofs.VerdictLaws.{keeps_verdict, ready_check, ready_run}

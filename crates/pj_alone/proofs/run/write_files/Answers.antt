@@ -14,7 +14,7 @@ use Rattle.pj_run.specs.Stops.{files_status, stop_line}
 use Rattle.pj_run.specs.Whole.{WritesWhole}
 use Rattle.pj_run.specs.declared.stops.FilesStop.{FilesStop}
 use Rattle.std.specs.Prelude.{IfErr, OnOk}
-use Rattle.pj_alone.specs.Calls.{first_file}
+use Rattle.pj_prepare.specs.Calls.{first_file}
 use Rattle.pj_alone.specs.Endings.{ending_of, stop_name}
 use Rattle.pj_alone.specs.Promises.{KeepsAll}
 use Rattle.pj_alone.proofs.CallLaws.{few_names, first_is, of_few}

@@ -3,12 +3,12 @@ use Rattle.pj_io.specs.States.{FolderState}
 use Rattle.pj_report.specs.declared.status.Status.{Status}
 use Rattle.pj_report.specs.Report.{status_line, HasLine}
 use Rattle.pj_report.specs.Written.{Delivered}
-use Rattle.pj_alone.specs.Calls.{call_for}
+use Rattle.pj_prepare.specs.Calls.{call_for}
 use Rattle.pj_alone.specs.Endings.{ending_of}
 use Rattle.pj_alone.specs.Promises.{KeepsAll}
 use Rattle.pj_plan.specs.declared.node.PlanNode.{PlanNode}
-use Rattle.pj_alone.specs.Scripts.{HasSteps, IsPrepared, IsSetUp, StepsCause}
-use Rattle.pj_alone.specs.Stops.{steps_status}
+use Rattle.pj_prepare.specs.Scripts.{HasSteps, IsPrepared, IsSetUp, StepsCause}
+use Rattle.pj_prepare.specs.Stops.{steps_status}
 use Rattle.pj_alone.proofs.RunPromises.{scripted}
 use Rattle.pj_alone.proofs.ScriptLaws.{keeps_unscripted, steps_line}
 use Rattle.pj_alone.proofs.run.write_run.Given.{Over}

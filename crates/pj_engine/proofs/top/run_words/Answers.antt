@@ -1,9 +1,9 @@
 use Rattle.std.proofs.Common.{refl, refl, sym, subst, Option}
 use Rattle.pj_words.specs.declared.request.Request.{Request}
-use Rattle.pj_alone.specs.Calls.{call_by, call_for, wanted}
+use Rattle.pj_prepare.specs.Calls.{call_by, call_for, wanted}
 use Rattle.pj_alone.specs.Endings.{ending_of, Ending}
 use Rattle.pj_alone.specs.Promises.{Answers, AnswersRefusals, AnswersScripts, Ends, IsCompleted, IsRightCount, IsRightFault, IsRightFileLimit, IsRightLimit, IsRightlyDone, IsRightlyUnsafe, IsRightOpenFault, IsRightPlanLimit, IsRightReadFault, IsRightRefusal, IsRightScriptLimit, IsRightUsage, IsRightWriteFault, LeavesLines, Makes, Punctuates, ReadsToEnd, RetractsNothing, StaysLawful, Tallies, WritesOneThread}
-use Rattle.pj_alone.specs.declared.stops.PlanStop.TheVariants.{NoMemory as PlanMemory}
+use Rattle.pj_prepare.specs.declared.stops.PlanStop.TheVariants.{NoMemory as PlanMemory}
 use Rattle.pj_alone.proofs.MemoryLaws.{early_memory}
 use Rattle.pj_alone.proofs.EarlyLaws.{ended_at_words}
 use Rattle.pj_report.specs.declared.status.Status.TheVariants.{NoMemory}

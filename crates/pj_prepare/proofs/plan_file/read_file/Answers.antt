@@ -1,6 +1,6 @@
 use Rattle.std.proofs.Common.{[], ◌∷◌}
 use Rattle.pj_feed.proofs.Opening.{opens_closes, opens_most_one}
-use Rattle.pj_alone.proofs.plan_file.read_file.Goals as goal
+use Rattle.pj_prepare.proofs.plan_file.read_file.Goals as goal
 
 pub returns-in-Ok-whole-clause-opened : goal.returns-in-Ok-whole-clause-opened
 returns-in-Ok-whole-clause-opened g c =

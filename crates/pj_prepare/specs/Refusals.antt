@@ -9,11 +9,11 @@ use Rattle.pj_plan_text.specs.PlanRead.{plan_read}
 use Rattle.pj_report.specs.declared.status.Status.{Status}
 use Rattle.pj_report.specs.declared.status.Status.TheVariants.{Done, Usage, OpenFault, ReadFault, PlanRefused, FileCount, Unsafe, ScriptRefused, WriteFault, NoMemory, Limit}
 use Rattle.pj_report.specs.declared.status.LimitOf.TheVariants.{Plan}
-use Rattle.pj_alone.specs.declared.stops.FileStop.{FileStop}
-use Rattle.pj_alone.specs.declared.stops.FileStop.TheVariants.{OpenFault, ReadFault, TooLong, NoMemory as FileMemory}
-use Rattle.pj_alone.specs.declared.stops.PlanStop.{PlanStop}
-use Rattle.pj_alone.specs.declared.stops.PlanStop.TheVariants.{File, Refused, FileCount as OtherCount, Unsafe as Stuck, NoMemory as PlanMemory}
-use Rattle.pj_alone.specs.Calls.{behind_first, is_nothing, leading, running, takes_plan, Call, HasToldPlan, files_asked, file_names, operand, plan_bytes}
+use Rattle.pj_prepare.specs.declared.stops.FileStop.{FileStop}
+use Rattle.pj_prepare.specs.declared.stops.FileStop.TheVariants.{OpenFault, ReadFault, TooLong, NoMemory as FileMemory}
+use Rattle.pj_prepare.specs.declared.stops.PlanStop.{PlanStop}
+use Rattle.pj_prepare.specs.declared.stops.PlanStop.TheVariants.{File, Refused, FileCount as OtherCount, Unsafe as Stuck, NoMemory as PlanMemory}
+use Rattle.pj_prepare.specs.Calls.{behind_first, is_nothing, leading, running, takes_plan, Call, HasToldPlan, files_asked, file_names, operand, plan_bytes}
 use Rattle.pj_feed.specs.Opened.{OpensFirst}
 use Rattle.pj_safety.specs.Safety.{IsFirstRisk}
 use Rattle.pj_judge.specs.Judgments.{AreUnsafeLines, HasUnsafeLines}

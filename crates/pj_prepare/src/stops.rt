@@ -1,4 +1,4 @@
-// Why there is no plan to run.
+// Why there is no plan to run, and no script to play.
 ghost use Rattle.std.specs.Prelude.{◌≡◌};
 
 use pj_judge::Unsafe;
@@ -23,11 +23,11 @@ pub enum FileStop {
 pub enum PlanStop {
     /// The plan's file was not read.
     File { stop: FileStop },
-    /// The plan has this fault.
+    /// The plan has this fault, its first.
     Refused { fault: PlanFault },
-    /// The plan wants another number of files than was got.
+    /// The plan has `want` streams and the request another number of files, `got`, or 2^32 - 1 where they are more.
     FileCount { want: u32, got: u32 },
-    /// A node of the plan is not safe.
+    /// A node of the plan is not safe: the first that is not, with its risk and the lines that tell it.
     Unsafe { found: Unsafe },
     /// Memory could not be had.
     NoMemory,
@@ -38,14 +38,14 @@ pub enum PlanStop {
 pub enum StepsStop {
     /// The script's file was not read.
     File { stop: FileStop },
-    /// This line of the script is no step.
+    /// This line of the script, counted from 1, is no step, and none before it.
     Refused { line: u64 },
     /// Memory could not be had.
     NoMemory,
 }
 
 impl From<FileStop> for PlanStop {
-    ghost use Rattle.pj_alone.specs.declared.stops.PlanStop.TheVariants.{File as OfFile};
+    ghost use Rattle.pj_prepare.specs.declared.stops.PlanStop.TheVariants.{File as OfFile};
 
     ghost from_gives = { λ stop plan. plan ≡ OfFile stop };
 
@@ -55,7 +55,7 @@ impl From<FileStop> for PlanStop {
 }
 
 impl From<NoMemory> for PlanStop {
-    ghost use Rattle.pj_alone.specs.declared.stops.PlanStop.TheVariants.{NoMemory as OutOfMemory};
+    ghost use Rattle.pj_prepare.specs.declared.stops.PlanStop.TheVariants.{NoMemory as OutOfMemory};
 
     ghost from_gives = { λ _ stop. stop ≡ OutOfMemory };
 
@@ -65,7 +65,7 @@ impl From<NoMemory> for PlanStop {
 }
 
 impl From<FileStop> for StepsStop {
-    ghost use Rattle.pj_alone.specs.declared.stops.StepsStop.TheVariants.{File as OfFile};
+    ghost use Rattle.pj_prepare.specs.declared.stops.StepsStop.TheVariants.{File as OfFile};
 
     ghost from_gives = { λ stop steps. steps ≡ OfFile stop };
 

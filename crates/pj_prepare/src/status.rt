@@ -1,13 +1,13 @@
 // The status of a call that has no plan to run, or no script to play.
 ghost use Rattle.std.specs.Prelude.{◌≡◌};
-ghost use Rattle.pj_alone.specs.Stops.{file_status as status_of_file, plan_status, steps_status};
+ghost use Rattle.pj_prepare.specs.Stops.{file_status as status_of_file, plan_status, steps_status};
 
 use crate::stops::{FileStop, PlanStop, StepsStop};
 use pj_report::{LimitOf, Status};
 
 impl PlanStop {
-    /// How a call ends that has no plan to run.
-    pub(crate) fn status(&self) -> Status
+    /// The status of a call that has no plan to run; the plan's file is operand 1.
+    pub fn status(&self) -> Status
         ensures { result ≡ plan_status self.now }
     {
         match self {
@@ -30,8 +30,8 @@ impl PlanStop {
 }
 
 impl StepsStop {
-    /// How a call ends that has no script to play.
-    pub(crate) fn status(self) -> Status
+    /// The status of a call that has no script to play; the script's file is operand 2.
+    pub fn status(self) -> Status
         ensures { result ≡ steps_status self }
     {
         match self {

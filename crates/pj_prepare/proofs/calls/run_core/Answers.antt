@@ -3,8 +3,8 @@ use Rattle.pj_shape.specs.declared.joins.CertStep.{CertStep}
 use Rattle.pj_laws.specs.HistoryLaws.{AllAreCertified}
 use Rattle.pj_core.specs.Plans.{nodes_of, run_plan}
 use Rattle.pj_safe_core.proofs.Certified.{run_certified}
-use Rattle.pj_alone.proofs.Refusing.{new_core}
-use Rattle.pj_alone.proofs.calls.run_core.Goals as goal
+use Rattle.pj_prepare.proofs.Refusing.{new_core}
+use Rattle.pj_prepare.proofs.calls.run_core.Goals as goal
 
 pub new-requires-clause-certified : goal.new-requires-clause-certified
 new-requires-clause-certified c =

@@ -6,12 +6,12 @@ use Rattle.pj_io.specs.States.{FolderState}
 use Rattle.pj_plan.specs.declared.node.PlanNode.{PlanNode}
 use Rattle.pj_script.specs.declared.step.ScriptStep.{ScriptStep}
 use Rattle.pj_script.specs.Reading.{AreStepsOf, script_read}
-use Rattle.pj_alone.specs.declared.calls.Prepared.{Prepared}
-use Rattle.pj_alone.specs.declared.stops.FileStop.TheVariants.{OpenFault as NotOpened, ReadFault as NotRead, TooLong, NoMemory as FileMemory}
-use Rattle.pj_alone.specs.declared.stops.StepsStop.{StepsStop}
-use Rattle.pj_alone.specs.declared.stops.StepsStop.TheVariants.{File, Refused, NoMemory}
-use Rattle.pj_alone.specs.Calls.{call_for, file_names, leading, script_names, Call, HasReadPlan, HasToldPlan, operand}
-use Rattle.pj_alone.specs.Ready.{IsRunReady}
+use Rattle.pj_prepare.specs.declared.calls.Prepared.{Prepared}
+use Rattle.pj_prepare.specs.declared.stops.FileStop.TheVariants.{OpenFault as NotOpened, ReadFault as NotRead, TooLong, NoMemory as FileMemory}
+use Rattle.pj_prepare.specs.declared.stops.StepsStop.{StepsStop}
+use Rattle.pj_prepare.specs.declared.stops.StepsStop.TheVariants.{File, Refused, NoMemory}
+use Rattle.pj_prepare.specs.Calls.{call_for, file_names, leading, script_names, Call, HasReadPlan, HasToldPlan, operand}
+use Rattle.pj_prepare.specs.Ready.{IsRunReady}
 use Rattle.pj_words.specs.declared.request.Request.{Request}
 
 -- ---- the steps

@@ -13,18 +13,18 @@ use Rattle.pj_core.specs.Plans.{RunPlan, nodes_of, run_plan}
 use Rattle.pj_laws.specs.HistoryLaws.{AllAreCertified}
 use Rattle.pj_core.specs.Cores.{CoreState}
 use Rattle.pj_core.specs.Calls.{IsFresh}
-use Rattle.pj_alone.specs.declared.stops.FileStop.{FileStop}
-use Rattle.pj_alone.specs.declared.stops.FileStop.TheVariants.{OpenFault as NotOpened, ReadFault as NotRead, TooLong, NoMemory as FileMemory}
-use Rattle.pj_alone.specs.declared.stops.PlanStop.{PlanStop}
-use Rattle.pj_alone.specs.declared.stops.PlanStop.TheVariants.{File as PlanFile, Refused, FileCount as OtherCount, Unsafe as Stuck, NoMemory as PlanMemory}
+use Rattle.pj_prepare.specs.declared.stops.FileStop.{FileStop}
+use Rattle.pj_prepare.specs.declared.stops.FileStop.TheVariants.{OpenFault as NotOpened, ReadFault as NotRead, TooLong, NoMemory as FileMemory}
+use Rattle.pj_prepare.specs.declared.stops.PlanStop.{PlanStop}
+use Rattle.pj_prepare.specs.declared.stops.PlanStop.TheVariants.{File as PlanFile, Refused, FileCount as OtherCount, Unsafe as Stuck, NoMemory as PlanMemory}
 use Rattle.pj_feed.specs.Opened.{OpensFirst, StayOutside}
 use Rattle.pj_feed.proofs.Outside.{stay_elsewhere}
 use Rattle.pj_run.specs.PlanNames.{HasShortNames}
-use Rattle.pj_alone.specs.Plans.{outline_in, plan_of, plan_if, SpellsPlan}
-use Rattle.pj_alone.specs.Refusals.{BytesRefused, FileCause, FileOpens, HasLines, PlanCause, PlanUnfit}
+use Rattle.pj_prepare.specs.Plans.{outline_in, plan_of, plan_if, SpellsPlan}
+use Rattle.pj_prepare.specs.Refusals.{BytesRefused, FileCause, FileOpens, HasLines, PlanCause, PlanUnfit}
 use Rattle.pj_run.specs.Runs.{IsNewCore}
 use Rattle.pj_safe_core.proofs.Certified.{run_certified}
-use Rattle.pj_alone.proofs.NameLaws.{plain_names}
+use Rattle.pj_prepare.proofs.NameLaws.{plain_names}
 
 -- ---- a plan
 

@@ -6,11 +6,11 @@ ghost use Rattle.pj_plan.specs.Nodes.{streams_of};
 ghost use Rattle.pj_plan_text.specs.PlanRead.{plan_read};
 ghost use Rattle.pj_safety.specs.Certificates.{AreCertificates, certificates_of};
 ghost use Rattle.pj_safety.specs.Safety.{IsSafePlan};
-ghost use Rattle.pj_alone.specs.Calls.{call_for, file_names, form_by, operand, plan_bytes, HasReadPlan, HasToldPlan};
+ghost use Rattle.pj_prepare.specs.Calls.{call_for, file_names, form_by, operand, plan_bytes, HasReadPlan, HasToldPlan};
 ghost use Rattle.pj_feed.specs.Opened.{OpensFirst, OpensAtMost, IsReadToEnd, StayOutside};
-ghost use Rattle.pj_alone.specs.Plans.{outline_in, plan_of, IsAsked, SpellsPlan};
-ghost use Rattle.pj_alone.specs.Ready.{IsReadyFor};
-ghost use Rattle.pj_alone.specs.Refusals.{BytesRefused, HasLines, PlanCause, PlanUnfit, Unprepared, counted_files};
+ghost use Rattle.pj_prepare.specs.Plans.{outline_in, plan_of, IsAsked, SpellsPlan};
+ghost use Rattle.pj_prepare.specs.Ready.{IsReadyFor};
+ghost use Rattle.pj_prepare.specs.Refusals.{BytesRefused, HasLines, PlanCause, PlanUnfit, Unprepared, counted_files};
 ghost use Rattle.pj_run.specs.Runs.{IsNewCore};
 ghost use Rattle.pj_words.specs.Request.{IsRequest};
 
@@ -41,10 +41,12 @@ pub struct Options {
     pub check: bool,
 }
 
-/// A core, and what its run is to write.
+/// What a run begins with.
 #[derive(Drop)]
 pub struct Prepared {
+    /// A core of the plan, to which nothing has come yet.
     pub core: Core,
+    /// What the run is to write.
     pub writing: Writing,
 }
 
@@ -59,8 +61,15 @@ pub enum Ready {
     Make { seed: u32, count: u32 },
 }
 
-/// What is to be done of the request: a core of the plan that it names, if it asks for a run, and the plan is safe and has a stream
-/// for each file; the plan itself, if it is to be checked; or what input is to be made.
+/// What is to be done of the request, which is one that words can make: a core of the plan that it names, if it asks for a run, and
+/// the plan is safe and has a stream for each file; the plan itself, safe or not, if it is to be checked; or what input is to be made.
+/// A script is left for `read_steps`.
+///
+/// The plan's file, if the request names one, is opened, read to its end and closed, and no other is. `File` comes where it was not
+/// read, with the cause; `Refused` where its bytes have a fault, with the first; `FileCount` where a plan that is to be run has another
+/// number of streams than the request has files; `Unsafe` where it has the right one and a node of it is not safe; `NoMemory` where
+/// memory was wanting. After each of these at most the plan's file was opened, and it is closed; what the folder's files have is the
+/// same, no count of their faults fell, and of other names nothing changed.
 pub fn prepare<F: Folder>(
     alloc: Global,
     request: &Request,
@@ -127,7 +136,7 @@ pub fn prepare<F: Folder>(
     }
 }
 
-/// The names of the streams' files that the request has.
+/// The names of the streams' files that the request has, in order: those of a run or a replay, and none of a check or a made input.
 pub fn files_in(request: &Request) -> &[Bytes]
     ensures { (folder : FolderState) → result.now ≡ file_names (call_for request.now folder) }
 {
@@ -168,9 +177,13 @@ fn prepare_run<F: Folder>(
     Ok(ready_for(alloc, plan, files, options)?)
 }
 
-// A core of the plan that the bytes spell, if it has so many streams, and what its run is to write.
+/// A core of the plan that the bytes spell, if it has so many streams and is safe, and what its run is to write. The limit of the
+/// options lies from 1 to 2^40; the bytes may be any, and as many.
+///
+/// `Refused` comes where they have a fault, with the first; `FileCount` where the plan has another number of streams; `Unsafe` where it
+/// has the right one and a node of it is not safe; `NoMemory` where memory was wanting; `File` never.
 #[tactic(auto, using(crate::proofs::Refusing::unfit_bytes, crate::proofs::Refusing::spelled))]
-pub(crate) fn spelled_ready(
+pub fn spelled_ready(
     alloc: Global,
     bytes: &[u8],
     files: usize,

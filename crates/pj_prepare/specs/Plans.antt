@@ -4,8 +4,8 @@ use Rattle.pj_plan.specs.declared.fault.PlanFault.{PlanFault}
 use Rattle.pj_plan.specs.declared.node.Outline.{Outline}
 use Rattle.pj_plan_text.specs.PlanRead.{plan_read}
 use Rattle.pj_core.specs.Cores.{CoreState}
-use Rattle.pj_alone.specs.declared.calls.Options.{Options}
-use Rattle.pj_alone.specs.declared.calls.Prepared.{Prepared}
+use Rattle.pj_prepare.specs.declared.calls.Options.{Options}
+use Rattle.pj_prepare.specs.declared.calls.Prepared.{Prepared}
 
 abbrev pub plan_if : Result Outline PlanFault → Option Outline
 plan_if (Ok plan) = Some plan

@@ -1,5 +1,5 @@
--- The names of a plan's nodes, and its streams by their numbers.
-use Rattle.std.proofs.Common.{◌≡◌, ◌≤◌, ℕ, suc, true, List, [], length, flat_map, get_or, refl, ap, ◌∙◌, inl, inr, arith}
+-- The names of a plan's nodes, and how many its streams are.
+use Rattle.std.proofs.Common.{◌≡◌, ◌≤◌, ℕ, true, List, length, flat_map, refl, inl, inr, arith}
 use Rattle.std.proofs.lemmas.Bool.{and_parts}
 use Rattle.pj_value.specs.Lists.{In}
 use Rattle.pj_value.proofs.Members.{In-append_left, In-flat_map_from, all_at, all_from}
@@ -8,30 +8,18 @@ use Rattle.pj_plan.specs.declared.node.Node.TheVariants.{Stream, Select, Project
 use Rattle.pj_plan.specs.declared.node.PlanNode.{PlanNode}
 use Rattle.pj_plan.specs.declared.node.Outline.{Outline}
 use Rattle.pj_plan.specs.Names.{is_name, is_column_name, is_word, begins_small, is_spelled}
-use Rattle.pj_plan.specs.Nodes.{streams_of, streams_in}
-use Rattle.pj_plan.specs.Canonical.{declaration, node_name, node_statements, statements_of}
+use Rattle.pj_plan.specs.Nodes.{streams_of}
+use Rattle.pj_plan.specs.Canonical.{declaration, node_statements, statements_of}
 use Rattle.pj_plan.specs.Kept.{IsMadeAgain}
 use Rattle.pj_plan.specs.Sound.{IsSoundPlan}
 use Rattle.pj_run.specs.PlanNames.{HasShortNames, is_short}
-use Rattle.pj_report.proofs.NodeNames.{past_names}
-use Rattle.pj_alone.specs.Endings.{stream_name}
-use Rattle.pj_feed.proofs.StreamNodes.{count_numbers, few-streams, name-at}
+use Rattle.pj_feed.proofs.StreamNodes.{count_numbers, few-streams}
 
--- ---- streams by their numbers
+-- ---- how many streams there are
 
 -- few nodes have few streams
 pub few_numbers : (nodes : List PlanNode) → IsSoundPlan nodes → length (streams_of nodes) ≤ 64
 few_numbers nodes sound = let few = few-streams nodes sound in let count = count_numbers nodes in omega (arith, few, count)
-
--- the name of a node is that of the stream that it is
-pub named_stream : (nodes : List PlanNode) (s number : ℕ) → suc s ≤ length (streams_of nodes) → number ≡ get_or (streams_of nodes) s number → node_name nodes number ≡ stream_name (streams_in nodes) s
-named_stream nodes s number within is =
-    let count = count_numbers nodes in
-    ap (node_name nodes) is ∙ name-at nodes s number (omega (arith, within, count))
-
--- there is no stream of this number
-pub unnamed_stream : (nodes : List PlanNode) (s : ℕ) → length (streams_of nodes) ≤ s → [] ≡ stream_name (streams_in nodes) s
-unnamed_stream nodes s past = let e = count_numbers nodes in past_names (streams_in nodes) s (omega (arith, past, e))
 
 -- ---- plain names
 

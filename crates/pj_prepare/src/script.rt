@@ -1,8 +1,8 @@
 // The script of a request, if it has one.
 ghost use Rattle.std.specs.Prelude.{◌≡◌, ◌∷◌, [], IfErr, IfOk, IsTrue, OnOk, Some};
 ghost use Rattle.pj_io.specs.Folders.{NoneFalls};
-ghost use Rattle.pj_alone.specs.Calls.{wanted};
-ghost use Rattle.pj_alone.specs.Scripts.{HasNoSteps, HasSteps, ReadsScript, SpellsSteps, StepsCause};
+ghost use Rattle.pj_prepare.specs.Calls.{wanted};
+ghost use Rattle.pj_prepare.specs.Scripts.{HasNoSteps, HasSteps, ReadsScript, SpellsSteps, StepsCause};
 ghost use Rattle.pj_feed.specs.Opened.{IsReadToEnd, OpensAtMost, OpensFirst, StayOutside};
 ghost use Rattle.pj_script.specs.Reading.{AreStepsOf};
 
@@ -15,7 +15,13 @@ use pj_value::List;
 use pj_words::Request;
 use std::alloc::Global;
 
-/// The steps of the request's script over the plan, each with its line, if the request has a script; or why they were not had.
+/// The steps of the request's script over the plan, each with the number of its line, in order; none where the request has no script,
+/// as only a replay has one.
+///
+/// The script's file is opened, read to its end and closed, and no other is. `File` comes where it was not read, with the cause;
+/// `Refused` at the first line that is neither skipped nor a step over the plan; `NoMemory` where memory was wanting. After each of these
+/// at most the script's file was opened, and it is closed; what the folder's files have is the same, no count of their faults fell, and
+/// of other names nothing changed.
 pub fn read_steps<F: Folder>(
     alloc: Global,
     request: &Request,

@@ -9,7 +9,7 @@ use Rattle.pj_io.specs.States.{FolderState}
 use Rattle.pj_feed.specs.Named.{IsAlone}
 use Rattle.pj_feed.specs.Opened.{OpensFirst, StayOutside}
 use Rattle.pj_feed.proofs.Outside.{stay_then, stay_wider}
-use Rattle.pj_alone.specs.Calls.{first_by, leading, operand}
+use Rattle.pj_prepare.specs.Calls.{first_by, leading, operand}
 
 -- the files stand behind the plan and a script
 pub count_leading : (plan : List ℕ) (script : Option (List ℕ)) → first_by script ≡ suc (length (leading plan script))

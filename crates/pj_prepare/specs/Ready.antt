@@ -4,12 +4,12 @@ use Rattle.pj_plan.specs.declared.node.Outline.{Outline}
 use Rattle.pj_plan.specs.Nodes.{streams_of}
 use Rattle.pj_safety.specs.Safety.{IsSafePlan}
 use Rattle.pj_run.specs.Runs.{IsNewCore}
-use Rattle.pj_alone.specs.declared.calls.Prepared.{Prepared}
-use Rattle.pj_alone.specs.declared.calls.Ready.{Ready}
-use Rattle.pj_alone.specs.declared.calls.Ready.TheVariants.{Run, Check, Make}
-use Rattle.pj_alone.specs.Calls.{checking, making, Call, HasToldPlan, file_names, operand, plan_bytes}
-use Rattle.pj_alone.specs.Plans.{outline_in, IsAsked, SpellsPlan}
-use Rattle.pj_alone.specs.Refusals.{IsRun}
+use Rattle.pj_prepare.specs.declared.calls.Prepared.{Prepared}
+use Rattle.pj_prepare.specs.declared.calls.Ready.{Ready}
+use Rattle.pj_prepare.specs.declared.calls.Ready.TheVariants.{Run, Check, Make}
+use Rattle.pj_prepare.specs.Calls.{checking, making, Call, HasToldPlan, file_names, operand, plan_bytes}
+use Rattle.pj_prepare.specs.Plans.{outline_in, IsAsked, SpellsPlan}
+use Rattle.pj_prepare.specs.Refusals.{IsRun}
 use Rattle.pj_words.specs.Request.{IsMake as IsMakeable}
 
 -- a core of the plan that the call names, with a stream for each file, to be run as the call asks

@@ -12,8 +12,8 @@ use Rattle.pj_feed.specs.Opened.{IsReadToEnd}
 use Rattle.pj_run.specs.Jobs.{Job}
 use Rattle.pj_script.specs.declared.step.ScriptStep.{ScriptStep}
 use Rattle.pj_script.specs.Reading.{script_read}
-use Rattle.pj_alone.specs.declared.calls.Options.{Options}
-use Rattle.pj_alone.specs.Plans.{plan_of}
+use Rattle.pj_prepare.specs.declared.calls.Options.{Options}
+use Rattle.pj_prepare.specs.Plans.{plan_of}
 
 -- ---- a call over a folder
 

@@ -2,7 +2,7 @@
 ghost use Rattle.std.specs.Prelude.{◌≡◌, ◌≤◌, ◌<◌, ◌∷◌, [], IsTrue, IfOk, IfErr, OnOk, Err, length};
 ghost use Rattle.pj_io.specs.Folders.{NoneFalls, SameElsewhere};
 ghost use Rattle.pj_feed.specs.Opened.{OpensFirst, OpensAtMost};
-ghost use Rattle.pj_alone.specs.Refusals.{FileCause, FileOpens};
+ghost use Rattle.pj_prepare.specs.Refusals.{FileCause, FileOpens};
 
 use crate::stops::FileStop;
 use pj_io::{Folder, OpenStop, WholeStop, read_whole};

@@ -2,8 +2,8 @@ use Rattle.std.proofs.Common.{◌∷◌, ap, List, ℕ, subst, sym}
 use Rattle.pj_words.specs.declared.request.Request.{Request}
 use Rattle.pj_feed.specs.Opened.{OpensAtMost}
 use Rattle.pj_feed.proofs.Opening.{opens_most_of}
-use Rattle.pj_alone.specs.Calls.{call_for, Call}
-use Rattle.pj_alone.proofs.calls.prepare.Goals as goal
+use Rattle.pj_prepare.specs.Calls.{call_for, Call}
+use Rattle.pj_prepare.proofs.calls.prepare.Goals as goal
 
 pub returns-in_err-ready-in-Run-clause-some_opened : goal.returns-in_err-ready-in-Run-clause-some_opened
 returns-in_err-ready-in-Run-clause-some_opened g c =

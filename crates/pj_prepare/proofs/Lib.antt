@@ -1,0 +1,3 @@
+pub mod NameLaws
+pub mod Operands
+pub mod Refusing
