@@ -1,5 +1,6 @@
 // The canonical statements of a plan.
 ghost use Rattle.std.specs.Prelude.{◌≡◌, ◌++◌, ◌∷◌, [], IfOk, OnOk, map, drop, flat_map, length};
+ghost use Rattle.pj_plan.specs.declared.node.Node.TheVariants.{Group as GroupNode};
 ghost use Rattle.pj_plan.specs.Canonical.{agg_word as word_of, aggs_of as aggs_under, class_word as word_at, class_words as words_of, column_name as name_at, column_word as whole_word, declaration as declared_by, first_test as test_of_first, last_name as name_of_last, node_name as name_of, node_schema as columns_of_node, node_statements, renamed_of as renamed_under, scheme_statements, statements_of as all_statements, tests_from as tests_behind, tests_of as all_tests};
 
 use pj_pattern::Pattern;
@@ -137,21 +138,23 @@ fn declaration(alloc: Global, nodes: &[PlanNode], node: &PlanNode) -> Result<Sta
             inputs: node_names(alloc, nodes, inputs.as_slice())?,
             classes: classes_of(alloc, spec.inputs.as_slice(), spec.classes.as_slice())?,
         }),
-        Node::Group { input, spec } => group(alloc, nodes, name, *input, columns, spec),
+        Node::Group { input, spec } => group(alloc, nodes, name, node, *input, spec),
     }
 }
 
+// The statement that declares a group of these, by its name.
 fn group(
     alloc: Global,
     nodes: &[PlanNode],
     name: Bytes,
+    node: &PlanNode,
     input: u32,
-    columns: &[Column],
     spec: &GroupSpec,
 ) -> Result<Statement, NoMemory>
-    ensures { IfOk result (λ statement. statement ≡ Statement.Group name (name_of nodes.now input) (map (name_at (columns_of_node nodes.now input)) spec.now.keys)
-        (aggs_under (drop (length spec.now.keys) columns.now) (columns_of_node nodes.now input) spec.now.aggs)) }
+    requires { name ≡ node.now.name }
+    ensures { IfOk result (λ statement. statement ≡ declared_by nodes.now node.now (GroupNode input spec.now)) }
 {
+    let columns = node.schema.columns();
     let from = node_columns(nodes, input);
     Ok(Statement::Group {
         name,
