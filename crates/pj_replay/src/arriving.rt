@@ -2,7 +2,7 @@
 ghost use Rattle.std.specs.Prelude.{◌≡◌, ◌<◌, ◌≤◌, IsTrue, length, IfErr, IfOk, OnOk};
 ghost use Rattle.pj_events.specs.OneThread.{arrival_of};
 ghost use Rattle.pj_feed.specs.Feeds.{turn_in, AreSameFeeds};
-ghost use Rattle.pj_hand.specs.Steps.{HandArrives, IsHandCause, IsHandRefused};
+ghost use Rattle.pj_hand.specs.Steps.{HandArrives, IsEventRefused};
 ghost use Rattle.pj_plan.specs.Nodes.{streams_in};
 ghost use Rattle.pj_report.specs.Written.{WritesNothing};
 ghost use Rattle.pj_run.specs.Stops.{of_core, of_turn};
@@ -69,7 +69,7 @@ fn next_at<S: Source, K: Sink>(
 fn enter(hand: &mut Hand, next: Arrival) -> Result<(), Stop>
     requires { IsTurnOf (streams_in hand.old.core.plan.nodes) (turn_in (streams_in hand.old.core.plan.nodes) next) }
     ensures ok { OnOk result (HandArrives hand.old hand.new (arrival_of (turn_in (streams_in hand.old.core.plan.nodes) next))) }
-    ensures err { IfErr result (λ stop. IsHandRefused hand.old.core.kept.stop hand.old hand.new stop (IsHandCause hand.old (arrival_of (turn_in (streams_in hand.old.core.plan.nodes) next)).event stop)) }
+    ensures err { IfErr result (IsEventRefused hand.old hand.new (arrival_of (turn_in (streams_in hand.old.core.plan.nodes) next)).event) }
 {
     match next {
         Arrival::Brought { stream, element } => hand.arrive(stream, element),
