@@ -95,7 +95,7 @@ closing_at (stream ∷ streams) (es ∷ lists) zero lt = refl
 closing_at (stream ∷ streams) (es ∷ lists) (suc k) lt = closing_at streams lists k (omega (arith, lt))
 
 -- the accepted elements with the closings are what the laws say of them
-closed_so : (job : Job) (files : List (List ℕ)) → closed_lists (run_nodes job) (accepted_of (streams_in job.nodes) files) ≡ elements_of job files
+pub closed_so : (job : Job) (files : List (List ℕ)) → closed_lists (run_nodes job) (accepted_of (streams_in job.nodes) files) ≡ elements_of job files
 closed_so job files = same_lists (closed_lists nodes lists) (elements_of job files) (many ∙ sym (closings_long streams lists)) at
   where
     nodes : List Node

@@ -86,9 +86,13 @@ IsEnabled job files = refused_line job files ≡ None
 abbrev pub StaysInLimit : Job → List (List ℕ) → Type 0
 StaysInLimit job files = StaysWithin job.limit (run_nodes job) [] (history_of job files)
 
+-- what a history of the plan hands out
+abbrev pub outs_by : Job → List Entry → List Out
+outs_by job history = handed_out job.trace (run_nodes job) history
+
 -- what the run hands out
 abbrev pub outs_of : Job → List (List ℕ) → List Out
-outs_of job files = handed_out job.trace (run_nodes job) (history_of job files)
+outs_of job files = outs_by job (history_of job files)
 
 -- its outputs
 abbrev pub outputs_of : Job → List (List ℕ) → List Element
@@ -126,15 +130,23 @@ abbrev pub check_in : Bool → List PlanNode → List (List (List Value)) → Li
 check_in false nodes lists = []
 check_in true nodes lists = check_line (length (answer_of nodes lists)) ∷ []
 
--- the report: the lines of each stream, the counts of results, the peaks of the joins, the total, and the check
-abbrev pub report_of : Job → List (List ℕ) → List Element → List (List ℕ)
-report_of job files outputs =
-    streams_report (streams_in job.nodes) files ++ results_line outputs ∷ [] ++ form_report job.form (total_in job.form outputs) (plan_run job) (history_of job files)
+-- the report after a history: the lines of each stream, the counts of results, the peaks of the joins, the total, and the check
+abbrev pub report_by : Job → List (List ℕ) → List Entry → List Element → List (List ℕ)
+report_by job files history outputs =
+    streams_report (streams_in job.nodes) files ++ results_line outputs ∷ [] ++ form_report job.form (total_in job.form outputs) (plan_run job) history
     ++ check_in job.check job.nodes (accepted_rows job files)
+
+-- that of the run
+abbrev pub report_of : Job → List (List ℕ) → List Element → List (List ℕ)
+report_of job files outputs = report_by job files (history_of job files) outputs
+
+-- all lines that a history makes
+abbrev pub lines_by : Job → List (List ℕ) → List Entry → List (List ℕ)
+lines_by job files history = form_lines job.form job.nodes (outs_by job history) ++ report_by job files history (elements_out (outs_by job history))
 
 -- all lines of the run
 abbrev pub run_lines : Job → List (List ℕ) → List (List ℕ)
-run_lines job files = form_lines job.form job.nodes (outs_of job files) ++ report_of job files (outputs_of job files)
+run_lines job files = lines_by job files (history_of job files)
 
 -- the lines that are due: all lines of the run; where a step of its script is not enabled, those alone that are written as outputs come
 abbrev pub due_where : Option ℕ → Job → List (List ℕ) → List (List ℕ)
