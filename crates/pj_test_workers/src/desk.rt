@@ -133,6 +133,8 @@ impl Gate for Desk {
 }
 
 impl Pause for Desk {
+    fn begin<R: Wait>(&self, _rt: &R, _role: Role, _index: u32) {}
+
     // Side by side the feeder of the bids rests until all items have come, each ticket is given, both inputs of the join were swept,
     // and what was handed out has come to the writer: of so many rounds of a worker, all but the first began after the rest.
     fn pause<R: Wait>(&self, rt: &R, role: Role, index: u32, _look: &Look) {
@@ -144,4 +146,10 @@ impl Pause for Desk {
             self.await_rounds(rt, Role::Writer, 2);
         }
     }
+
+    fn before_read<R: Wait>(&self, _rt: &R, _index: u32) {}
+
+    fn after_read<R: Wait>(&self, _rt: &R, _index: u32) {}
+
+    fn end<R: Wait>(&self, _rt: &R, _role: Role, _index: u32) {}
 }

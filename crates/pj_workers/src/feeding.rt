@@ -4,7 +4,7 @@ ghost use Rattle.pj_pattern.specs.declared.element.Element.{Element as AnElement
 ghost use Rattle.pj_pattern.specs.Elements.{rows_of};
 ghost use Rattle.pj_events.specs.History.{streams_of};
 ghost use Rattle.pj_events.specs.Outcomes.{elements_of};
-ghost use Rattle.pj_feed.specs.Feeds.{BringsOf, ComesBehind, HasAccepted, IsFed, IsSameFeed};
+ghost use Rattle.pj_feed.specs.Feeds.{AcceptsNone, BringsOf, ComesBehind, FeedStops, HasAccepted, IsFed, IsSameFeed, work_of};
 ghost use Rattle.pj_laws.specs.Seats.{made_by};
 ghost use Rattle.pj_workers.specs.Rounds.{Adds, IsRelief};
 ghost use Rattle.pj_workers.specs.Ends.{Breaks};
@@ -84,7 +84,12 @@ fn relieve<H: Hub, R: Wait>(
 }
 
 // The next that a stream brings, an element or its closing.
-fn next_arrival<S: Source>(feed: &mut Feed<S>) -> Result<Arrival, IntakeStop>
+fn next_arrival<S: Source, P: Pause, R: Wait>(
+    rt: &R,
+    feed: &mut Feed<S>,
+    stream: u32,
+    pause: &P,
+) -> Result<Arrival, IntakeStop>
     requires fed { IsFed feed.old }
     requires open { feed.old.is_open ≡ true }
     ensures same { IsSameFeed feed.old feed.new }
@@ -93,11 +98,38 @@ fn next_arrival<S: Source>(feed: &mut Feed<S>) -> Result<Arrival, IntakeStop>
     ensures stops { IfErr result (λ stop. (es : List AnElement) → HasAccepted feed.old es → FaultAt feed.old feed.new stop es) }
 {
     loop {
-        match feed.step() {
+        match next_step(rt, feed, stream, pause) {
             Ok(Some(next)) => return Ok(next),
             Ok(None) => {}
             Err(stop) => return Err(stop),
         }
+    }
+}
+
+// One step of a stream, around which others go on where it may wait.
+fn next_step<S: Source, P: Pause, R: Wait>(
+    rt: &R,
+    feed: &mut Feed<S>,
+    stream: u32,
+    pause: &P,
+) -> Result<Option<Arrival>, IntakeStop>
+    requires fed { IsFed feed.old }
+    requires open { feed.old.is_open ≡ true }
+    ensures fed { OnOk result (IsFed feed.new) }
+    ensures same { IsSameFeed feed.old feed.new }
+    ensures works { OnOk result (work_of feed.new < work_of feed.old) }
+    ensures brings { IfOk result (λ next. IfSome next (BringsOf feed.old)) }
+    ensures comes { IfOk result (λ next. IfSome next (ComesBehind feed.old feed.new)) }
+    ensures accepts { IfOk result (λ next. IfNone next (AcceptsNone feed.old feed.new)) }
+    ensures stops { IfErr result (λ stop. FeedStops feed.old feed.new stop) }
+{
+    if feed.waits() {
+        pause.before_read(rt, stream);
+        let next = feed.step();
+        pause.after_read(rt, stream);
+        next
+    } else {
+        feed.step()
     }
 }
 
@@ -120,13 +152,15 @@ fn keep_row(alloc: Global, kept: &mut Option<Items<Row>>, element: &Element) -> 
 
 // Makes the next element of the stream arrive, and keeps its row; or closes the stream, which ends the feeder. Where the feed stops,
 // or memory is wanting, the run is halted.
-fn bring<H: Hub, S: Source, R: Wait>(
+fn bring<H: Hub, S: Source, P: Pause, R: Wait>(
     rt: &R,
     alloc: Global,
     hub: &H,
     seat: &mut H::Seat,
     from: &mut Feed<S>,
+    stream: u32,
     kept: &mut Option<Items<Row>>,
+    pause: &P,
 ) -> Option<FeedEnd>
     requires name { H.seat_name seat.old ≡ H.name hub.now }
     requires there { H.number seat.old < length (streams_of (H.plan hub.now).nodes) }
@@ -137,7 +171,7 @@ fn bring<H: Hub, S: Source, R: Wait>(
     ensures ends { IfSome result (BringsNone (H.plan hub.now) (H.number seat.old) (H.seen seat.old) (H.seen seat.new) from.old from.new) }
     ensures kept { IfSome result (λ end. OnEnded end (kept.new ≡ kept.old)) }
 {
-    match next_arrival(from) {
+    match next_arrival(rt, from, stream, pause) {
         Ok(Arrival::Brought { stream, element }) => {
             match keep_row(alloc, kept, &element) {
                 Ok(()) => {}
@@ -199,7 +233,7 @@ pub fn feed<H: Hub, S: Source, G: Gate, P: Pause, R: Wait>(
         }
         gate.pass(Role::Feeder, stream, nth);
         nth = nth.saturating_add(1);
-        match bring(rt, alloc, hub, seat, from, kept) {
+        match bring(rt, alloc, hub, seat, from, stream, kept, pause) {
             None => {}
             Some(end) => return end,
         }

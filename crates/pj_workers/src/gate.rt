@@ -26,10 +26,22 @@ impl Gate for OpenGate {
     fn pass(&self, _role: Role, _index: u32, _nth: u64) {}
 }
 
-/// Where workers rest. It gets no seat, so that what it does makes no entry.
+/// Where workers wait for one another. It gets no seat, so that what it does makes no entry.
 pub trait Pause: Sync {
+    /// Before the first round of a worker.
+    fn begin<R: Wait>(&self, rt: &R, role: Role, index: u32);
+
     /// Between two rounds; the look is that of the round before.
     fn pause<R: Wait>(&self, rt: &R, role: Role, index: u32, look: &Look);
+
+    /// Before a feeder reads on in its file, which may wait.
+    fn before_read<R: Wait>(&self, rt: &R, index: u32);
+
+    /// Once it has read.
+    fn after_read<R: Wait>(&self, rt: &R, index: u32);
+
+    /// Once a worker has ended.
+    fn end<R: Wait>(&self, rt: &R, role: Role, index: u32);
 }
 
 /// A worker goes on at once.
@@ -37,5 +49,13 @@ pub trait Pause: Sync {
 pub struct NoPause;
 
 impl Pause for NoPause {
+    fn begin<R: Wait>(&self, _rt: &R, _role: Role, _index: u32) {}
+
     fn pause<R: Wait>(&self, _rt: &R, _role: Role, _index: u32, _look: &Look) {}
+
+    fn before_read<R: Wait>(&self, _rt: &R, _index: u32) {}
+
+    fn after_read<R: Wait>(&self, _rt: &R, _index: u32) {}
+
+    fn end<R: Wait>(&self, _rt: &R, _role: Role, _index: u32) {}
 }

@@ -39,12 +39,13 @@ loop-preserved g c =
         drains = drain-gains hub n mid after outs t
             ∙ (ap (λ (l : List Out). drained_in hub n mid ++ l) (sym c.as_slice.ensures)
             ∙ (ap (λ (l : List Out). l ++ lent) (quiet-gains hub n before mid (Looked look.pending) (IsLook hub look) (λ os. refl) s ∙ inv.3.drains) ∙ append_assoc (drained_in hub n (h.seen c.args.seat.now)) inv.3.gained lent));
-        handled = written-more c.args.plan.now.nodes c.args.results.now c.loop.results c.take.new.self (sink c.args.out.now) (sink c.loop.out) (sink c.take.new.out) inv.3.gained lent inv.4 c.take.ensures.told inv.3.handled
+        handled = written-more c.args.plan.now.nodes c.args.results.now c.loop.results c.hand_on.new.results (sink c.args.out.now) (sink c.loop.out) (sink c.hand_on.new.out) inv.3.gained lent inv.4 c.hand_on.ensures.told inv.3.handled
             c.in-Ok.ensures.taken c.in-Ok.ensures.lines;
       },
-      c.take.ensures.form ∙ inv.4,
-      λ told. inv.5 (c.take.ensures.told told),
-      omega (arith, inv.6, c.take.ensures.later),
+      c.hand_on.ensures.form ∙ inv.4,
+      λ told. inv.5 (c.hand_on.ensures.told told),
+      omega (arith, inv.6, c.hand_on.ensures.later),
+      λ none. c.in-Ok.ensures.handed_on,
     )
 
 pub returns-in-Err-clause-made : goal.returns-in-Err-clause-made
@@ -101,9 +102,9 @@ returns-in-Err-clause-hands_on g c =
           ∙ (drain-gains hub n mid drained outs t
           ∙ (ap (λ (l : List Out). drained_in hub n mid ++ l) (sym c.as_slice.ensures)
           ∙ (ap (λ (l : List Out). l ++ lent) (quiet-gains hub n before mid (Looked look.pending) (IsLook hub look) (λ os. refl) s ∙ inv.3.drains) ∙ append_assoc (drained_in hub n start) inv.3.gained lent)));
-      handled = subst (λ end. IsWritten end c.args.plan.now.nodes c.args.results.now c.take.new.self (sink c.args.out.now) (sink c.take.new.out) (inv.3.gained ++ lent)) (sym c.write_end_of.ensures)
-          (written-cut c.args.plan.now.nodes c.args.results.now c.loop.results c.take.new.self (sink c.args.out.now) (sink c.loop.out) (sink c.take.new.out) inv.3.gained lent inv.4 c.take.ensures.told inv.3.handled
-          stop inv.6 (λ is. c.take.ensures.fault (c.in-Err.is ∙ ap Err is)) c.in-Err.ensures.lines);
+      handled = subst (λ end. IsWritten end c.args.plan.now.nodes c.args.results.now c.hand_on.new.results (sink c.args.out.now) (sink c.hand_on.new.out) (inv.3.gained ++ lent)) (sym c.write_end_of.ensures)
+          (written-cut c.args.plan.now.nodes c.args.results.now c.loop.results c.hand_on.new.results (sink c.args.out.now) (sink c.loop.out) (sink c.hand_on.new.out) inv.3.gained lent inv.4 c.hand_on.ensures.told inv.3.handled
+          stop inv.6 (λ is. c.hand_on.ensures.fault (c.in-Err.is ∙ ap Err is)) c.in-Err.ensures.lines);
     }
 
 pub returns-then-sweeping_ends-clause-made : goal.returns-then-sweeping_ends-clause-made
@@ -152,4 +153,5 @@ loop-init g c =
       refl,
       λ told. told,
       omega arith,
+      λ none. none,
     )

@@ -1,4 +1,4 @@
-use Rattle.std.proofs.Common.{◌≡◌, ◌≤◌, IsTrue}
+use Rattle.std.proofs.Common.{[], ◌≡◌, ◌≤◌, IsTrue}
 use Rattle.pj_laws.specs.Seats.{made_by}
 use Rattle.pj_workers.specs.declared.writing.WriteEnd.TheVariants.{Over}
 use Rattle.pj_workers.specs.Rounds.{FollowsWriting, IsRound, Whole}
@@ -17,3 +17,4 @@ invariant-loop g l =
     × (l.results.form ≡ l.fn.results.form)
     × (IsTrue (sink l.out).told → IsTrue (sink l.fn.out).told)
     × ((sink l.fn.out).faults ≤ (sink l.out).faults)
+    × ((sink l.fn.out).held ≡ [] → (sink l.out).held ≡ [])
