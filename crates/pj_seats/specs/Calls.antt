@@ -1,5 +1,5 @@
 -- What a turn of each call did: the seat with this number had seen one list of entries, and now has seen another.
-use Rattle.std.specs.Prelude.{ℕ, ◌≡◌, List, [], ◌∷◌, ◌++◌, map, Option, Result}
+use Rattle.std.specs.Prelude.{ℕ, List, Option, Result}
 use Rattle.std.specs.Bool.{⊤}
 use Rattle.pj_pattern.specs.declared.element.Element.{Element}
 use Rattle.pj_events.specs.declared.events.Entry.{Entry}
@@ -8,7 +8,7 @@ use Rattle.pj_events.specs.declared.events.Look.{Look}
 use Rattle.pj_events.specs.declared.events.Out.{Out}
 use Rattle.pj_events.specs.declared.events.Stop.{Stop}
 use Rattle.pj_probe.specs.declared.probe.Found.{Found}
-use Rattle.pj_laws.specs.Seats.{HubPlan, made_by, seated}
+use Rattle.pj_laws.specs.Seats.{HubPlan, seated}
 use Rattle.pj_seats.specs.Answers.{Answers, Goes, HandsOut, IsLook, Removes, Turned, call_entry, closing_of}
 use Rattle.pj_seats.specs.Probes.{Takes, take_entry}
 
@@ -45,19 +45,3 @@ Halted hub seat before after = Turned hub seat before after (λ history. seated 
 
 abbrev pub Told : HubPlan → ℕ → List Entry → List Entry → Look → Type 0
 Told hub seat before after look = Turned hub seat before after (λ history. seated seat (Looked look.pending) 0) (IsLook hub look)
-
--- ---- steps of workers
-
--- the seat's own entries are those of before, the element's and the closing's
-abbrev pub FeedsLast : HubPlan → ℕ → List Entry → List Entry → ℕ → Element → Type 0
-FeedsLast hub seat before after stream element =
-    made_by seat after ≡ made_by seat before ++ seated seat (Arrive stream element) 0 ∷ seated seat (Arrive stream (closing_of hub stream)) 1 ∷ []
-
--- an arrival of each of these elements at the stream, made by the seat, in their order
-abbrev pub arrivals : ℕ → ℕ → List Element → List Entry
-arrivals seat stream elements = map (λ element. seated seat (Arrive stream element) 0) elements
-
--- the seat's own entries are those of before, an arrival of each element, and the closing
-abbrev pub FeedsAll : HubPlan → ℕ → List Entry → List Entry → ℕ → List Element → Type 0
-FeedsAll hub seat before after stream elements =
-    made_by seat after ≡ (made_by seat before ++ arrivals seat stream elements) ++ seated seat (Arrive stream (closing_of hub stream)) 1 ∷ []

@@ -4,31 +4,28 @@ ghost use Rattle.pj_shape.specs.Columns.{domains_of};
 ghost use Rattle.pj_pattern.specs.Fitting.{FitsDomains};
 ghost use Rattle.pj_plan.specs.Nodes.{streams_of, stream_columns, streams_in};
 ghost use Rattle.pj_safety.specs.Certificates.{AreCertificates, certificates_of};
+ghost use Rattle.pj_events.specs.History.{streams_of as history_streams};
+ghost use Rattle.pj_laws.specs.Seats.{MayFeedAll, made_by};
 ghost use Rattle.pj_hub.specs.Hubs.{hub_with, shared_with};
 ghost use Rattle.pj_hub.specs.Seated.{AreNewSeats, hub_made, hub_seats};
 ghost use Rattle.pj_turn.specs.Seats.{IsNewSeat, IsSeat, seat_name, seat_number};
 ghost use Rattle.pj_test_threads.specs.Auctions.{HasJoin, IsAuction, IsAuctionPlan, IsHeld, IsPair, bid_domains, item_domains};
 
+use crate::plans::{AUCTION, JOIN, has_join};
 use pj_core::{Out, Probe, Stop};
 use pj_element::{punct_text, row_text};
 use pj_hub::{CoreHub, HubSeat};
 use pj_judge::{Judged, judge};
 use pj_pattern::{Element, Pattern, Punct};
-use pj_plan::{Node, Plan};
+use pj_plan::Plan;
 use pj_plan_text::read_plan;
 use pj_safe_core::safe_core;
-use pj_seats::{Hub, feed_all, probe_once};
+use pj_seats::Hub;
 use pj_shape::{Cert, Column};
 use pj_value::{Kind, List, NoMemory, Row, SharedText, Value};
 use std::alloc::Global;
 use std::sync::Wait;
 use std::thread::{Threads, for_each_mut};
-
-const AUCTION: &[u8] =
-    b"plan 1\nstream items item:int seller:text\nstream bids bitem:int price:int\nscheme items + _\nscheme bids + _\njoin j items bids on item=bitem\noutput j\n";
-
-// The join of the auction, which is its last node.
-const JOIN: u32 = 2;
 
 // ---- elements
 
@@ -113,27 +110,6 @@ fn columns_at(plan: &Plan, stream: u32) -> &[Column]
     plan.schema(node).columns()
 }
 
-// Whether the node is a join of two inputs.
-fn has_join(plan: &Plan, node: u32) -> bool
-    ensures { IsTrue result → HasJoin plan.now.nodes node }
-{
-    if node < plan.nodes() {
-        match plan.node(node) {
-            Node::Join { inputs, spec: _ } => inputs.len() == 2,
-            Node::Stream { schemes: _ } => false,
-            Node::Select { input: _, test: _ } => false,
-            Node::Project {
-                input: _,
-                columns: _,
-            } => false,
-            Node::Union { inputs: _ } => false,
-            Node::Group { input: _, spec: _ } => false,
-        }
-    } else {
-        false
-    }
-}
-
 fn is_auction(plan: &Plan) -> bool
     ensures { IsTrue result → IsAuctionPlan plan.now.nodes }
 {
@@ -182,6 +158,62 @@ fn opened(alloc: Global, seats: u32) -> Option<(CoreHub, List<HubSeat>)>
 }
 
 // ---- steps of workers
+
+// These elements arrive, one after the other, and the stream ends.
+fn feed_all<H: Hub, R: Wait>(
+    rt: &R,
+    hub: &H,
+    seat: &mut H::Seat,
+    stream: u32,
+    elements: Vec<Element>,
+) -> Result<(), Stop>
+    requires name { H.seat_name seat.old ≡ H.name hub.now }
+    requires stream { (stream ≡ H.number seat.old) × (stream < length (history_streams (H.plan hub.now).nodes)) }
+    requires may { MayFeedAll (H.plan hub.now).nodes stream (made_by (H.number seat.old) (H.seen seat.old)) elements.items }
+    ensures same { (H.seat_name seat.new ≡ H.seat_name seat.old) × (H.number seat.new ≡ H.number seat.old) }
+{
+    for element in elements {
+        hub.arrive(rt, seat, stream, element)?;
+    }
+    hub.close_stream(rt, seat, stream)
+}
+
+// Works on the probe that the seat holds, and gives it.
+fn give_back<H: Hub, R: Wait>(
+    rt: &R,
+    alloc: Global,
+    hub: &H,
+    seat: &mut H::Seat,
+    probe: Probe,
+) -> Result<(), Stop>
+    requires name { H.seat_name seat.old ≡ H.name hub.now }
+    requires held { IsHeld (H.plan hub.now) (H.number seat.old) (H.seen seat.old) probe }
+    ensures same { (H.seat_name seat.new ≡ H.seat_name seat.old) × (H.number seat.new ≡ H.number seat.old) }
+{
+    match probe.work(alloc) {
+        Ok(found) => hub.give(rt, seat, probe, found),
+        Err(NoMemory) => Err(Stop::NoMemory),
+    }
+}
+
+// Takes a ticket and gives it. Tells whether there was one.
+fn probe_once<H: Hub, R: Wait>(
+    rt: &R,
+    alloc: Global,
+    hub: &H,
+    seat: &mut H::Seat,
+) -> Result<bool, Stop>
+    requires name { H.seat_name seat.old ≡ H.name hub.now }
+    ensures same { (H.seat_name seat.new ≡ H.seat_name seat.old) × (H.number seat.new ≡ H.number seat.old) }
+{
+    match hub.take(rt, seat)? {
+        Some(probe) => {
+            give_back(rt, alloc, hub, seat, probe)?;
+            Ok(true)
+        }
+        None => Ok(false),
+    }
+}
 
 // All probes that are pending.
 fn probe_all<H: Hub, R: Wait>(
@@ -304,24 +336,6 @@ fn auctioned<R: Threads + Wait + Sync>(rt: &R, alloc: Global) -> Option<List<Out
 }
 
 // ---- two probes under way
-
-// Gives the probe that the seat holds.
-fn give_back<H: Hub, R: Wait>(
-    rt: &R,
-    alloc: Global,
-    hub: &H,
-    seat: &mut H::Seat,
-    probe: Probe,
-) -> Result<(), Stop>
-    requires name { H.seat_name seat.old ≡ H.name hub.now }
-    requires held { IsHeld (H.plan hub.now) (H.number seat.old) (H.seen seat.old) probe }
-    ensures same { (H.seat_name seat.new ≡ H.seat_name seat.old) × (H.number seat.new ≡ H.number seat.old) }
-{
-    match probe.work(alloc) {
-        Ok(found) => hub.give(rt, seat, probe, found),
-        Err(NoMemory) => Err(Stop::NoMemory),
-    }
-}
 
 // The second probe is given before the first, with a sweep on a third seat before each. Answers how many rows the sweeps removed.
 fn give_both<H: Hub, R: Wait>(

@@ -4,7 +4,6 @@ ghost use Rattle.pj_plan.specs.Nodes.{streams_of, stream_columns, streams_in};
 ghost use Rattle.pj_safety.specs.Certificates.{AreCertificates, certificates_of};
 ghost use Rattle.pj_hub.specs.Hubs.{hub_with};
 ghost use Rattle.pj_hub.specs.Seated.{AreNewSeats, hub_made, hub_seats};
-ghost use Rattle.pj_test_threads.specs.Auctions.{HasJoin};
 ghost use Rattle.pj_test_workers.specs.Auctions.{IsAuction, IsAuctionPlan, IsNewFeed};
 
 use pj_feed::Feed;
@@ -12,44 +11,18 @@ use pj_hub::{CoreHub, HubSeat};
 use pj_intake::Intake;
 use pj_io::MemSource;
 use pj_judge::{Judged, judge};
-use pj_plan::{Node, Plan};
+use pj_plan::Plan;
 use pj_plan_text::read_plan;
 use pj_safe_core::safe_core;
 use pj_shape::{Cert, Schema};
+use pj_test_threads::{AUCTION, JOIN, has_join};
 use pj_value::{List, NoMemory};
 use std::alloc::Global;
-
-const AUCTION: &[u8] =
-    b"plan 1\nstream items item:int seller:text\nstream bids bitem:int price:int\nscheme items + _\nscheme bids + _\njoin j items bids on item=bitem\noutput j\n";
-
-// The join of the auction, which is its last node.
-pub(crate) const JOIN: u32 = 2;
 
 // So many bytes come at a read: the first line of the items.
 const READ: usize = 10;
 
 // ---- the plan
-
-// Whether the node is a join of two inputs.
-fn has_join(plan: &Plan, node: u32) -> bool
-    ensures { IsTrue result → HasJoin plan.now.nodes node }
-{
-    if node < plan.nodes() {
-        match plan.node(node) {
-            Node::Join { inputs, spec: _ } => inputs.len() == 2,
-            Node::Stream { schemes: _ } => false,
-            Node::Select { input: _, test: _ } => false,
-            Node::Project {
-                input: _,
-                columns: _,
-            } => false,
-            Node::Union { inputs: _ } => false,
-            Node::Group { input: _, spec: _ } => false,
-        }
-    } else {
-        false
-    }
-}
 
 fn is_auction(plan: &Plan) -> bool
     ensures { IsTrue result → IsAuctionPlan plan.now.nodes }

@@ -5,7 +5,7 @@ ghost use Rattle.pj_hub.specs.Seated.{hub_made};
 ghost use Rattle.pj_turn.specs.Seats.{IsNewSeat, IsSeat, seat_name, seat_number};
 ghost use Rattle.pj_test_workers.specs.Auctions.{IsAuction};
 
-use crate::auction::{JOIN, auction, feed_of, opened};
+use crate::auction::{auction, feed_of, opened};
 use crate::desk::{Desk, Ends};
 use pj_core::{Core, Stop};
 use pj_element::row_text;
@@ -14,6 +14,7 @@ use pj_io::MemSink;
 use pj_plan::Plan;
 use pj_report::{Counts, Form, ResultWriter};
 use pj_seats::Hub;
+use pj_test_threads::JOIN;
 use pj_value::{List, NoMemory, Row};
 use pj_workers::{
     FeedEnd, WorkEnd, WriteEnd, feed, fresh_feeds_stand, probe, sweep_all, write_out,
