@@ -1,0 +1,9 @@
+pub mod Rounds
+pub mod Tests
+pub mod Makers
+pub mod Stopping
+pub mod Arriving
+pub mod Draining
+pub mod Tickets
+pub mod Closing
+pub mod Ending
