@@ -2,11 +2,12 @@
 ghost use Rattle.std.specs.Prelude.{[], false};
 ghost use Rattle.pj_io.specs.MemoryFolders.{folder_of};
 
+use crate::cases::{Case, Fault, folder_of, words_of};
 use pj_engine::{Status, run_words};
 use pj_io::{Failed, Folder, MemFolder, MemSource, OpenStop, Sink, Source};
+use pj_value::NoMemory;
 use std::alloc::Global;
 use std::cell::Cell;
-use std::test::Fail;
 
 // What the reads, writes and flushes of a run note: the bytes that are held back, how many flushes and reads there were, and at
 // how many of the reads bytes were held back.
@@ -104,15 +105,6 @@ const FILE: &[u8] = b"t 1 \"a\"\nx 2\nt 2 \"b\"\n# c\nt 3 \"c\"\n";
 const PAIR: &[u8] =
     b"plan 1\nstream a k:int\nstream b l:int\nscheme a +\nscheme b +\njoin j a b on k=l\noutput j\n";
 
-// The words of a command.
-fn words_of(alloc: Global, command: &str) -> Result<Vec<String>, Fail> {
-    let mut words = Vec::new(alloc);
-    for word in command.split(' ') {
-        words.push(String::from_str(alloc, word)?)?;
-    }
-    Ok(words)
-}
-
 fn new_log() -> Log {
     Log {
         held: Cell::new(0),
@@ -129,7 +121,7 @@ fn ends(
     folder: MemFolder,
     fails: u64,
     log: &Log,
-) -> Result<Status, Fail> {
+) -> Result<Status, NoMemory> {
     let words = words_of(rt.alloc(), command)?;
     let mut folder = NotedFolder { inner: folder, log };
     let mut out = NotedSink {
@@ -140,62 +132,54 @@ fn ends(
     Ok(run_words(rt, words.as_slice(), &mut folder, &mut out))
 }
 
-// Whether the run over the file, by reads of so many bytes, ends so, with so many flushes and reads of the file, and at no read
-// anything was held back.
-fn hands_on(
-    rt: &HostRuntime,
-    cut: usize,
-    fails: u64,
-    want: Status,
-    flushes: u64,
-    reads: u64,
-) -> Result<bool, Fail> {
-    let alloc = rt.alloc();
+// How the run over the file ends, by reads of so many bytes, and how many flushes, reads of the file, and reads with something held
+// back there were.
+fn hands_on(rt: &HostRuntime, cut: usize, fails: u64) -> Result<(Status, u64, u64, u64), NoMemory> {
+    let case = Case {
+        command: "run plan a",
+        cuts: [65_536, 65_536, cut, 65_536, 65_536],
+        files: [PLAN, b"", FILE, b"", b""],
+        fault: Fault::Nothing,
+    };
     let log = new_log();
-    let mut folder = MemFolder::new(alloc, &[])?;
-    folder.add(alloc, b"plan", PLAN, 65_536, &[])?;
-    folder.add(alloc, b"file", FILE, cut.max(1), &[])?;
-    let status = ends(rt, "run plan file", folder, fails, &log)?;
+    let status = ends(rt, case.command, folder_of(rt.alloc(), &case)?, fails, &log)?;
     // The plan's file has two reads.
-    let noted = (log.flushes.get(), log.reads.get().saturating_sub(2));
-    Ok(status == want && noted == (flushes, reads) && log.late.get() == 0)
+    let reads = log.reads.get().saturating_sub(2);
+    Ok((status, log.flushes.get(), reads, log.late.get()))
 }
 
 // A flush comes before the read, not for each line, and before the report's end.
 #[test]
-fn lines_are_handed_on_before_a_read(rt: HostRuntime) -> Result<(), Fail> {
-    for (cut, flushes, reads) in [(4096usize, 3u64, 2u64), (12, 5, 4), (8, 6, 5), (1, 6, 33)] {
-        assert!(rt;
-            hands_on(&rt, cut, 99, Status::Done, flushes, reads)?,
-            "at {cut}"
-        );
+fn lines_are_handed_on_before_a_read(rt: HostRuntime) {
+    for (cut, flushes, reads) in [(4096, 3, 2), (12, 5, 4), (8, 6, 5), (1, 6, 33)] {
+        let want = (Status::Done, flushes, reads, 0);
+        assert_eq!(rt; hands_on(&rt, cut, 99), Ok(want), "at {cut}");
     }
-    Ok(())
 }
 
 #[test]
-fn each_flush_fails_in_turn(rt: HostRuntime) -> Result<(), Fail> {
-    for (nth, reads) in [(0u64, 0u64), (1, 1), (2, 2), (3, 3), (4, 4)] {
-        let flushes = nth.saturating_add(1);
-        assert!(rt;
-            hands_on(&rt, 12, nth, Status::WriteFault, flushes, reads)?,
-            "at {nth}"
-        );
+fn each_flush_fails_in_turn(rt: HostRuntime) {
+    for (nth, flushes, reads) in [(0, 1, 0), (1, 2, 1), (2, 3, 2), (3, 4, 3), (4, 5, 4)] {
+        let want = (Status::WriteFault, flushes, reads, 0);
+        assert_eq!(rt; hands_on(&rt, 12, nth), Ok(want), "at {nth}");
     }
-    Ok(())
+}
+
+// How the run over two streams ends, and how many reads with something held back there were.
+fn streams_wait(rt: &HostRuntime) -> Result<(Status, u64), NoMemory> {
+    let case = Case {
+        command: "run plan a b",
+        cuts: [65_536, 65_536, 4, 6, 65_536],
+        files: [PAIR, b"", b"t 1\nt 2\nt 1\n", b"t 1\nx\nt 2\nt 1\n", b""],
+        fault: Fault::Nothing,
+    };
+    let log = new_log();
+    let status = ends(rt, case.command, folder_of(rt.alloc(), &case)?, 99, &log)?;
+    Ok((status, log.late.get()))
 }
 
 // What one stream's element brought is handed on before the other stream's file is read.
 #[test]
-fn streams_wait_for_each_other_with_nothing_held_back(rt: HostRuntime) -> Result<(), Fail> {
-    let alloc = rt.alloc();
-    let log = new_log();
-    let mut folder = MemFolder::new(alloc, &[])?;
-    folder.add(alloc, b"plan", PAIR, 65_536, &[])?;
-    folder.add(alloc, b"a", b"t 1\nt 2\nt 1\n", 4, &[])?;
-    folder.add(alloc, b"b", b"t 1\nx\nt 2\nt 1\n", 6, &[])?;
-    let status = ends(&rt, "run plan a b", folder, 99, &log)?;
-    assert_eq!(rt; status, Status::Done);
-    assert_eq!(rt; log.late.get(), 0);
-    Ok(())
+fn streams_wait_for_each_other_with_nothing_held_back(rt: HostRuntime) {
+    assert_eq!(rt; streams_wait(&rt), Ok((Status::Done, 0)));
 }

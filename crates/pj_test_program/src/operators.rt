@@ -1,53 +1,41 @@
 // The exact bytes of runs of every operator, and what a check counts of them.
-use crate::runs::{run_in, sink_of};
+use crate::cases::{Case, Fault, PIECES, ends};
 use pj_engine::Status;
-use pj_io::MemFolder;
-use pj_value::List;
-use std::test::Fail;
+use pj_value::NoMemory;
 
-// Whether the run of a plan over these files, as many as it has streams, ends well and writes this.
-pub(crate) fn runs(
-    rt: &HostRuntime,
-    command: &str,
-    plan: &[u8],
-    files: [&[u8]; 3],
-    want: &[u8],
-) -> Result<bool, Fail> {
-    let alloc = rt.alloc();
-    let [a, b, c] = files;
-    let mut folder = MemFolder::new(alloc, &[])?;
-    folder.add(alloc, b"plan", plan, 100, &[])?;
-    folder.add(alloc, b"a", a, 7, &[])?;
-    folder.add(alloc, b"b", b, 1, &[])?;
-    folder.add(alloc, b"c", c, 100, &[])?;
-    let mut out = sink_of(alloc, &[])?;
-    let status = run_in(rt, command, &mut folder, &mut out)?;
-    Ok(status == Status::Done && out.bytes() == want)
-}
+const DONE: Option<Status> = Some(Status::Done);
 
-// Whether it does, and writes the line of a check behind that where the second command asks for one.
-fn runs_and_checks(
+// Whether the run of a plan over these files ends well and writes this, and the line of a check behind it where the second command
+// asks for one.
+fn runs_and_checks<'a>(
     rt: &HostRuntime,
-    commands: [&str; 2],
-    plan: &[u8],
-    files: [&[u8]; 3],
+    commands: [&'a str; 2],
+    plan: &'a [u8],
+    files: [&'a [u8]; 3],
     want: &[u8],
     check: &[u8],
-) -> Result<bool, Fail> {
+) -> Result<bool, NoMemory> {
     let [command, checking] = commands;
-    let mut checked = List::new(rt.alloc());
-    checked.append(want)?;
-    checked.append(check)?;
-    Ok(
-        runs(rt, command, plan, files, want)?
-            && runs(rt, checking, plan, files, checked.as_slice())?,
-    )
+    let plainly = case_of(command, plan, files);
+    let checked = case_of(checking, plan, files);
+    Ok(ends(rt, &plainly, want, b"")? == DONE && ends(rt, &checked, want, check)? == DONE)
+}
+
+fn case_of<'a>(command: &'a str, plan: &'a [u8], files: [&'a [u8]; 3]) -> Case<'a> {
+    let [a, b, c] = files;
+    Case {
+        command,
+        cuts: PIECES,
+        files: [plan, b"", a, b, c],
+        fault: Fault::Nothing,
+    }
 }
 
 #[test]
-fn selects_projects_and_unions_run(rt: HostRuntime) -> Result<(), Fail> {
-    for (commands, plan, files, want, check) in [
+fn selects_projects_and_unions_run(rt: HostRuntime) {
+    for (name, commands, plan, files, want, check) in [
         (
+            "a select and a project",
             ["run plan a", "run --check plan a"],
             b"plan 1\nstream s k:int v:text\nselect f s where k [1..9] k [3..]\nproject g f v\noutput g\n".as_slice(),
             [
@@ -59,6 +47,7 @@ fn selects_projects_and_unions_run(rt: HostRuntime) -> Result<(), Fail> {
             b"# check 1\n".as_slice(),
         ),
         (
+            "a union",
             ["run plan a b", "run plan a b --check"],
             b"plan 1\nstream l v:int\nstream r w:int\nunion u l r\noutput u\n",
             [b"t 5\np [1..9]\n", b"t 5\np 5\n", b""],
@@ -66,22 +55,24 @@ fn selects_projects_and_unions_run(rt: HostRuntime) -> Result<(), Fail> {
             b"# check 2\n",
         ),
     ] {
-        assert!(rt; runs_and_checks(&rt, commands, plan, files, want, check)?);
+        let ended = runs_and_checks(&rt, commands, plan, files, want, check);
+        assert_eq!(rt; ended, Ok(true), "at {name}");
     }
-    Ok(())
 }
 
 // A group's row goes out once a punctuation closes it: one on another column than the group's closes none. A sum is exact and
 // stops at the bounds of 64 bits, both ways.
 #[test]
-fn groups_run(rt: HostRuntime) -> Result<(), Fail> {
-    for (plan, file, want) in [
+fn groups_run(rt: HostRuntime) {
+    for (name, plan, file, want) in [
         (
+            "a sum",
             b"plan 1\nstream bids item:int price:int\ngroup g bids by item of n=count total=sum:price\noutput g\n".as_slice(),
             b"t 1 50\nt 2 7\nt 1 60\np * 50\np 1 *\nt 2 9223372036854775807\n".as_slice(),
             b"t 1 2 110\np 1 * *\nt 2 2 9223372036854775807\np * * *\n# stream bids tuples 4 punctuations 2 rejected 0\n# results 2 punctuations 2\n".as_slice(),
         ),
         (
+            "bounds of sums",
             b"plan 1\nstream s k:int v:text n:int\ngroup g s by k of low=min:v high=max:v total=sum:n\noutput g\n",
             b"t 1 \"b\" 9223372036854775807\nt 1 \"\" 9223372036854775807\nt 2 \"x\" -9223372036854775808\nt 1 \"ba\" -1\nt 2 \"X\" -9223372036854775808\np 2 * *\n",
             b"t 2 \"X\" \"x\" -9223372036854775808\np 2 * * *\nt 1 \"\" \"ba\" 9223372036854775807\np * * * *\n# stream s tuples 5 punctuations 1 rejected 0\n# results 2 punctuations 2\n",
@@ -90,21 +81,23 @@ fn groups_run(rt: HostRuntime) -> Result<(), Fail> {
         let commands = ["run plan a", "run plan --check a"];
         let files = [file, b"", b""];
         let check = b"# check 2\n";
-        assert!(rt; runs_and_checks(&rt, commands, plan, files, want, check)?);
+        let ended = runs_and_checks(&rt, commands, plan, files, want, check);
+        assert_eq!(rt; ended, Ok(true), "at {name}");
     }
-    Ok(())
 }
 
 // A join over a join, and a join over a select below a project and a group.
 #[test]
-fn trees_of_operators_run(rt: HostRuntime) -> Result<(), Fail> {
-    for (plan, files, want) in [
+fn trees_of_operators_run(rt: HostRuntime) {
+    for (name, plan, files, want) in [
         (
+            "a join over a join",
             b"plan 1\nstream a x:int\nstream b y:int\nstream c z:int\nscheme a +\nscheme b +\nscheme c +\njoin j a b on x=y\njoin k j c on y=z\noutput k\n".as_slice(),
             [b"t 1\n".as_slice(), b"t 1\n", b"t 1\n"],
             b"t 1 1 1\np * * *\np * * *\np * * *\n# stream a tuples 1 punctuations 0 rejected 0\n# stream b tuples 1 punctuations 0 rejected 0\n# stream c tuples 1 punctuations 0 rejected 0\n# results 1 punctuations 3\n# peak j 2\n# peak k 2\n".as_slice(),
         ),
         (
+            "a join below a group",
             b"plan 1\n# orders paid and shipped\nstream orders oid:int cust:text\nstream pays poid:int amount:int\nstream ships soid:int depot:text\nscheme orders + _\nscheme pays + _\nscheme ships + _\nselect big pays where amount [10..]\njoin j orders big ships on oid=poid=soid\nproject p j oid cust amount\ngroup g p by oid cust of paid=sum:amount\noutput g\n",
             [
                 b"t 1 \"ann\"\np 1 *\nt 2 \"bob\"\np 2 *\n",
@@ -116,7 +109,7 @@ fn trees_of_operators_run(rt: HostRuntime) -> Result<(), Fail> {
     ] {
         let commands = ["run plan a b c", "run plan a b c --check"];
         let check = b"# check 1\n";
-        assert!(rt; runs_and_checks(&rt, commands, plan, files, want, check)?);
+        let ended = runs_and_checks(&rt, commands, plan, files, want, check);
+        assert_eq!(rt; ended, Ok(true), "at {name}");
     }
-    Ok(())
 }

@@ -1,28 +1,19 @@
 // What the options of a run change, and which words ask for a run.
-use crate::runs::{AUCTION, run_in, sink_of};
-use pj_io::MemFolder;
-use pj_value::List;
-use std::test::Fail;
+use crate::cases::{A, Case, Fault, PIECES, ends, ends_with, front, number_of};
+use crate::runs::AUCTION;
+use pj_engine::Status;
+use pj_value::NoMemory;
 
 const USAGE_STATUS: u8 = 64;
 
-// Whether the command over the auction and these files ends with this number and writes this.
-fn ends(
-    rt: &HostRuntime,
-    command: &str,
-    items: &[u8],
-    bids: &[u8],
-    number: u8,
-    want: &[u8],
-) -> Result<bool, Fail> {
-    let alloc = rt.alloc();
-    let mut folder = MemFolder::new(alloc, &[])?;
-    folder.add(alloc, b"plan", AUCTION, 100, &[])?;
-    folder.add(alloc, b"items", items, 7, &[])?;
-    folder.add(alloc, b"bids", bids, 1, &[])?;
-    let mut out = sink_of(alloc, &[])?;
-    let status = run_in(rt, command, &mut folder, &mut out)?;
-    Ok(status.number() == number && out.bytes() == want)
+// A command over the auction and these files.
+fn auction<'a>(command: &'a str, items: &'a [u8], bids: &'a [u8]) -> Case<'a> {
+    Case {
+        command,
+        cuts: PIECES,
+        files: [AUCTION, b"", items, bids, b""],
+        fault: Fault::Nothing,
+    }
 }
 
 const TWO_ITEMS: &[u8] = b"t 1 \"ann\"\nt 2 \"bob\"\n";
@@ -36,23 +27,16 @@ const TWO_RESULTS: &[u8] =
     b"t 1 \"ann\" 1 50\nt 2 \"bob\" 2 60\np * * * *\np * * * *\n# stream items tuples 2 punctuations 0 rejected 0\n# stream bids tuples 2 punctuations 0 rejected 0\n# results 2 punctuations 2\n# peak j 4\n";
 
 #[test]
-fn a_limit_stops_the_run_at_its_node(rt: HostRuntime) -> Result<(), Fail> {
+fn a_limit_stops_the_run_at_its_node(rt: HostRuntime) {
     for (command, number, want) in [
-        (
-            "run --workers 0 --limit 3 plan items bids",
-            6u8,
-            STOPPED_AT_JOIN,
-        ),
-        ("run --limit=003 plan items bids", 6, STOPPED_AT_JOIN),
-        ("run plan --limit 6 items bids", 0, TWO_RESULTS),
-        ("run plan items bids --limit 1099511627776", 0, TWO_RESULTS),
+        ("run --workers 0 --limit 3 plan a b", 6, STOPPED_AT_JOIN),
+        ("run --limit=003 plan a b", 6, STOPPED_AT_JOIN),
+        ("run plan --limit 6 a b", 0, TWO_RESULTS),
+        ("run plan a b --limit 1099511627776", 0, TWO_RESULTS),
     ] {
-        assert!(rt;
-            ends(&rt, command, TWO_ITEMS, TWO_BIDS, number, want)?,
-            "at {command}"
-        );
+        let ended = ends_with(&rt, &auction(command, TWO_ITEMS, TWO_BIDS), want, b"");
+        assert_eq!(rt; ended, Ok(Some(number)), "at {command}");
     }
-    Ok(())
 }
 
 const ITEMS: &[u8] = b"t 1 \"ann\"\np 1 *\n";
@@ -64,14 +48,14 @@ const TRACED: &[u8] =
     b"t 1 \"ann\" 1 50\n# purge j bids t 1 50\np * * 1 *\n# purge j items t 1 \"ann\"\np 1 * * *\np * * * *\np * * * *\n# stream items tuples 1 punctuations 1 rejected 0\n# stream bids tuples 1 punctuations 1 rejected 1\n# reject bids line 3 closed by line 2\n# results 1 punctuations 4\n# peak j 2\n";
 
 #[test]
-fn rows_that_sweeps_remove_are_noted_in_a_trace(rt: HostRuntime) -> Result<(), Fail> {
+fn rows_that_sweeps_remove_are_noted_in_a_trace(rt: HostRuntime) {
     for command in [
-        "run --trace plan items bids",
-        "run plan items bids --workers=0 --trace --limit 9",
+        "run --trace plan a b",
+        "run plan a b --workers=0 --trace --limit 9",
     ] {
-        assert!(rt; ends(&rt, command, ITEMS, BIDS, 0, TRACED)?, "at {command}");
+        let ended = ends(&rt, &auction(command, ITEMS, BIDS), TRACED, b"");
+        assert_eq!(rt; ended, Ok(Some(Status::Done)), "at {command}");
     }
-    Ok(())
 }
 
 const CHECKED: &[u8] =
@@ -82,61 +66,51 @@ const TRACED_AND_CHECKED: &[u8] =
 
 // A rejected row is not among those that the check goes over.
 #[test]
-fn a_check_goes_over_accepted_rows(rt: HostRuntime) -> Result<(), Fail> {
+fn a_check_goes_over_accepted_rows(rt: HostRuntime) {
     for (command, want) in [
-        ("run --check plan items bids", CHECKED),
-        ("run --check plan items bids --trace", TRACED_AND_CHECKED),
+        ("run --check plan a b", CHECKED),
+        ("run --check plan a b --trace", TRACED_AND_CHECKED),
         (
-            "run --workers 0 --trace plan items bids --check",
+            "run --workers 0 --trace plan a b --check",
             TRACED_AND_CHECKED,
         ),
     ] {
-        assert!(rt; ends(&rt, command, ITEMS, BIDS, 0, want)?, "at {command}");
+        let ended = ends(&rt, &auction(command, ITEMS, BIDS), want, b"");
+        assert_eq!(rt; ended, Ok(Some(Status::Done)), "at {command}");
     }
-    Ok(())
 }
 
 // The items' punctuation comes before the result and waits until the last sweep.
 const WAITING_BIDS: &[u8] = b"p 9 *\nt 1 50\n";
 
-const WAITING_STREAMS: &[u8] =
-    b"# stream items tuples 1 punctuations 1 rejected 0\n# stream bids tuples 1 punctuations 1 rejected 0\n# results 1 punctuations 4\n";
+const WAITING_SORTED: &[u8] =
+    b"t 1 \"ann\" 1 50\np * * * *\np * * * *\np * * 9 *\np 1 * * *\n# stream items tuples 1 punctuations 1 rejected 0\n# stream bids tuples 1 punctuations 1 rejected 0\n# results 1 punctuations 4\n";
 
-const WAITING_SORTED: &[u8] = b"t 1 \"ann\" 1 50\np * * * *\np * * * *\np * * 9 *\np 1 * * *\n";
-
-const WAITING_RUN: &[u8] = b"p * * 9 *\nt 1 \"ann\" 1 50\np * * * *\np 1 * * *\np * * * *\n";
-
-// Whether the run over the auction with items that wait writes these results, the report and this behind it.
-fn waits_so(rt: &HostRuntime, command: &str, results: &[u8], rest: &[u8]) -> Result<bool, Fail> {
-    let mut want = List::new(rt.alloc());
-    want.append(results)?;
-    want.append(WAITING_STREAMS)?;
-    want.append(rest)?;
-    ends(rt, command, ITEMS, WAITING_BIDS, 0, want.as_slice())
-}
+const WAITING_RUN: &[u8] =
+    b"p * * 9 *\nt 1 \"ann\" 1 50\np * * * *\np 1 * * *\np * * * *\n# stream items tuples 1 punctuations 1 rejected 0\n# stream bids tuples 1 punctuations 1 rejected 0\n# results 1 punctuations 4\n";
 
 #[test]
-fn results_are_sorted_and_checked_where_it_is_asked_for(rt: HostRuntime) -> Result<(), Fail> {
-    let sorted = WAITING_SORTED;
-    let run = WAITING_RUN;
-    assert!(rt; waits_so(&rt, "run --workers 0 --sorted plan items bids", sorted, b"")?);
-    assert!(rt;
-        waits_so(
-            &rt,
-            "run --workers 0 --sorted --check plan items bids",
-            sorted,
-            b"# check 1\n"
-        )?
-    );
-    assert!(rt;
-        waits_so(
-            &rt,
-            "run plan items bids --check",
-            run,
-            b"# peak j 2\n# check 1\n"
-        )?
-    );
-    Ok(())
+fn results_are_sorted_and_checked_where_it_is_asked_for(rt: HostRuntime) {
+    for (command, want, more) in [
+        (
+            "run --workers 0 --sorted plan a b",
+            WAITING_SORTED,
+            b"".as_slice(),
+        ),
+        (
+            "run --workers 0 --sorted --check plan a b",
+            WAITING_SORTED,
+            b"# check 1\n",
+        ),
+        (
+            "run plan a b --check",
+            WAITING_RUN,
+            b"# peak j 2\n# check 1\n",
+        ),
+    ] {
+        let ended = ends(&rt, &auction(command, ITEMS, WAITING_BIDS), want, more);
+        assert_eq!(rt; ended, Ok(Some(Status::Done)), "at {command}");
+    }
 }
 
 const THREE_ITEMS: &[u8] = b"t 10 \"eve\"\nt 2 \"bob\"\nt 1 \"ann\"\n";
@@ -149,53 +123,82 @@ const FOUR_SORTED: &[u8] =
     b"t 1 \"ann\" 1 50\nt 1 \"ann\" 1 50\nt 10 \"eve\" 10 70\nt 2 \"bob\" 2 60\np * * * *\np * * * *\n# stream items tuples 3 punctuations 0 rejected 0\n# stream bids tuples 4 punctuations 0 rejected 0\n# results 4 punctuations 2\n# check 4\n";
 
 #[test]
-fn sorted_lines_are_in_order_of_their_bytes(rt: HostRuntime) -> Result<(), Fail> {
-    let command = "run plan --check --sorted --workers 0 items bids";
-    assert!(rt; ends(&rt, command, THREE_ITEMS, FOUR_BIDS, 0, FOUR_SORTED)?);
-    Ok(())
-}
-
-// Whether a sorted run whose first writes go well, and the next one not, ends with a front of its bytes, of this length.
-fn breaks_off(rt: &HostRuntime, fails: u64, left: usize) -> Result<bool, Fail> {
-    let alloc = rt.alloc();
-    let mut folder = MemFolder::new(alloc, &[])?;
-    folder.add(alloc, b"plan", AUCTION, 100, &[])?;
-    folder.add(alloc, b"items", THREE_ITEMS, 9, &[])?;
-    folder.add(alloc, b"bids", FOUR_BIDS, 9, &[])?;
-    let mut out = sink_of(alloc, &[fails])?;
-    let command = "run --sorted --check plan items bids";
-    let status = run_in(rt, command, &mut folder, &mut out)?;
-    Ok(status.number() == 4 && FOUR_SORTED.starts_with(out.bytes()) && out.bytes().len() == left)
+fn sorted_lines_are_in_order_of_their_bytes(rt: HostRuntime) {
+    let command = "run plan --check --sorted --workers 0 a b";
+    let ended = ends(
+        &rt,
+        &auction(command, THREE_ITEMS, FOUR_BIDS),
+        FOUR_SORTED,
+        b"",
+    );
+    assert_eq!(rt; ended, Ok(Some(Status::Done)));
 }
 
 const SOME_RESULTS: &[u8] = b"t 10 \"eve\" 10 70\n";
 
-// Whether a run of which the second read of `items` fails ends with these lines and the status' line.
-fn stops_unread(rt: &HostRuntime, command: &str, lines: &[u8]) -> Result<bool, Fail> {
-    let alloc = rt.alloc();
-    let mut folder = MemFolder::new(alloc, &[])?;
-    folder.add(alloc, b"plan", AUCTION, 100, &[])?;
-    folder.add(alloc, b"items", THREE_ITEMS, 12, &[1])?;
-    folder.add(alloc, b"bids", FOUR_BIDS, 100, &[])?;
-    let mut out = sink_of(alloc, &[])?;
-    let status = run_in(rt, command, &mut folder, &mut out)?;
-    let mut want = List::new(alloc);
-    want.append(lines)?;
-    want.append(b"# stopped read fault operand 2\n")?;
-    Ok(status.number() == 3 && out.bytes() == want.as_slice())
-}
-
+// Where it meets its limit, where a write fails, and where a read does, with as many bytes of its lines.
 #[test]
-fn a_sorted_run_that_stops_writes_nothing_before_its_end(rt: HostRuntime) -> Result<(), Fail> {
+fn a_sorted_run_that_stops_writes_nothing_before_its_end(rt: HostRuntime) {
     let limited = b"# stopped limit node j\n".as_slice();
-    let command = "run --sorted --limit 3 plan items bids";
-    assert!(rt; ends(&rt, command, TWO_ITEMS, TWO_BIDS, 6, limited)?);
-    assert!(rt; breaks_off(&rt, 0, 0)?);
-    assert!(rt; breaks_off(&rt, 2, 30)?);
-    assert!(rt; breaks_off(&rt, 9, FOUR_SORTED.len() - 10)?);
-    assert!(rt; stops_unread(&rt, "run --sorted plan items bids", b"")?);
-    assert!(rt; stops_unread(&rt, "run --check plan items bids", SOME_RESULTS)?);
-    Ok(())
+    let command = "run --sorted --limit 3 plan a b";
+    let ended = ends_with(&rt, &auction(command, TWO_ITEMS, TWO_BIDS), limited, b"");
+    assert_eq!(rt; ended, Ok(Some(6)));
+    let unread = b"# stopped read fault operand 2\n".as_slice();
+    for (command, cuts, fault, number, lines, left, stop) in [
+        (
+            "run --sorted --check plan a b",
+            [100, 100, 9, 9, 100],
+            Fault::Write(0),
+            4,
+            FOUR_SORTED,
+            0,
+            b"".as_slice(),
+        ),
+        (
+            "run --sorted --check plan a b",
+            [100, 100, 9, 9, 100],
+            Fault::Write(2),
+            4,
+            FOUR_SORTED,
+            30,
+            b"",
+        ),
+        (
+            "run --sorted --check plan a b",
+            [100, 100, 9, 9, 100],
+            Fault::Write(9),
+            4,
+            FOUR_SORTED,
+            FOUR_SORTED.len() - 10,
+            b"",
+        ),
+        (
+            "run --sorted plan a b",
+            [100, 100, 12, 100, 100],
+            Fault::Read(A, 1),
+            3,
+            b"",
+            0,
+            unread,
+        ),
+        (
+            "run --check plan a b",
+            [100, 100, 12, 100, 100],
+            Fault::Read(A, 1),
+            3,
+            SOME_RESULTS,
+            100,
+            unread,
+        ),
+    ] {
+        let case = Case {
+            cuts,
+            fault,
+            ..auction(command, THREE_ITEMS, FOUR_BIDS)
+        };
+        let ended = ends_with(&rt, &case, front(lines, left), stop);
+        assert_eq!(rt; ended, Ok(Some(number)), "at {command} with {left} bytes");
+    }
 }
 
 // The punctuation of `bids` goes through both joins, and then the sweep behind it lets that of `items` go, which is one arrival
@@ -205,43 +208,44 @@ const TOWER: &[u8] =
 
 const TOWER_OUT: &[u8] = b"p * * 1 * * *\n# stopped limit node k\n";
 
-// Whether the run ends at its limit where these writes fail, with so many of its bytes.
-fn stops_first(rt: &HostRuntime, fails: &[u64], left: usize) -> Result<bool, Fail> {
-    let alloc = rt.alloc();
-    let mut folder = MemFolder::new(alloc, &[])?;
-    folder.add(alloc, b"plan", TOWER, 400, &[])?;
-    folder.add(alloc, b"c", b"t 7\nt 7\n", 100, &[])?;
-    folder.add(alloc, b"d", b"t 8\nt 8\n", 100, &[])?;
-    folder.add(alloc, b"items", ITEMS, 100, &[])?;
-    folder.add(alloc, b"bids", b"t 9 50\np 1 *\n", 100, &[])?;
-    let mut out = sink_of(alloc, fails)?;
-    let status = run_in(
+#[test]
+fn a_stop_stands_before_a_write_that_fails_behind_it(rt: HostRuntime) {
+    for (fault, left) in [
+        (Fault::Nothing, TOWER_OUT.len()),
+        (Fault::Write(0), 0),
+        (Fault::Write(1), 14),
+    ] {
+        // The first stream's file is `script`.
+        let case = Case {
+            command: "run plan script a b c --limit 5",
+            cuts: [400, 100, 100, 100, 100],
+            files: [
+                TOWER,
+                b"t 7\nt 7\n",
+                b"t 8\nt 8\n",
+                ITEMS,
+                b"t 9 50\np 1 *\n",
+            ],
+            fault,
+        };
+        let ended = ends_with(&rt, &case, front(TOWER_OUT, left), b"");
+        assert_eq!(rt; ended, Ok(Some(6)), "at {left}");
+    }
+}
+
+// The number of how a command ends where none of its files holds anything.
+fn number_over_nothing(rt: &HostRuntime, command: &str) -> Result<u8, NoMemory> {
+    number_of(
         rt,
-        "run plan c d items bids --limit 5",
-        &mut folder,
-        &mut out,
-    )?;
-    Ok(status.number() == 6 && TOWER_OUT.starts_with(out.bytes()) && out.bytes().len() == left)
+        &Case {
+            files: [b""; 5],
+            ..auction(command, b"", b"")
+        },
+    )
 }
 
 #[test]
-fn a_stop_stands_before_a_write_that_fails_behind_it(rt: HostRuntime) -> Result<(), Fail> {
-    assert!(rt; stops_first(&rt, &[], TOWER_OUT.len())?);
-    assert!(rt; stops_first(&rt, &[0], 0)?);
-    assert!(rt; stops_first(&rt, &[1], 14)?);
-    Ok(())
-}
-
-// Whether the words are refused with the usage line.
-fn is_usage(rt: &HostRuntime, command: &str) -> Result<bool, Fail> {
-    let mut folder = MemFolder::new(rt.alloc(), &[])?;
-    let mut out = sink_of(rt.alloc(), &[])?;
-    let status = run_in(rt, command, &mut folder, &mut out)?;
-    Ok(status.number() == USAGE_STATUS)
-}
-
-#[test]
-fn words_of_a_run_are_taken(rt: HostRuntime) -> Result<(), Fail> {
+fn words_of_a_run_are_taken(rt: HostRuntime) {
     for command in [
         "run p f",
         "run p f g h",
@@ -278,13 +282,16 @@ fn words_of_a_run_are_taken(rt: HostRuntime) -> Result<(), Fail> {
         "run --check --trace p f",
         "run p --check f g",
     ] {
-        assert!(rt; !is_usage(&rt, command)?, "at {command}");
+        let number = number_over_nothing(&rt, command);
+        assert!(rt;
+            number.is_ok() && number != Ok(USAGE_STATUS),
+            "at {command}"
+        );
     }
-    Ok(())
 }
 
 #[test]
-fn other_words_are_no_run(rt: HostRuntime) -> Result<(), Fail> {
+fn other_words_are_no_run(rt: HostRuntime) {
     for command in [
         "run p f --help",
         "run -h",
@@ -320,7 +327,10 @@ fn other_words_are_no_run(rt: HostRuntime) -> Result<(), Fail> {
         "RUN p f",
         "run  f",
     ] {
-        assert!(rt; is_usage(&rt, command)?, "at {command}");
+        assert_eq!(rt;
+            number_over_nothing(&rt, command),
+            Ok(USAGE_STATUS),
+            "at {command}"
+        );
     }
-    Ok(())
 }

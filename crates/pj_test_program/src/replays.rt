@@ -1,35 +1,17 @@
 // The exact bytes of replays, whatever interleaving their scripts list, and how they end.
-use crate::runs::{AUCTION, UNSAFE, padded, run_in, sink_of};
+use crate::cases::{B, Case, Fault, SCRIPT, ends, ends_with, front, number_of};
+use crate::runs::{AUCTION, UNSAFE, padded};
 use pj_engine::{LimitOf, Status};
-use pj_io::{MemFolder, MemSink};
-use pj_value::List;
-use std::alloc::Global;
-use std::test::Fail;
+use pj_value::NoMemory;
 
-// A folder with a plan, a script and three files.
-fn folder_of(alloc: Global, files: [&[u8]; 5]) -> Result<MemFolder, Fail> {
-    let [plan, script, a, b, c] = files;
-    let mut folder = MemFolder::new(alloc, &[])?;
-    folder.add(alloc, b"plan", plan, 65_536, &[])?;
-    folder.add(alloc, b"script", script, 65_536, &[])?;
-    folder.add(alloc, b"a", a, 7, &[])?;
-    folder.add(alloc, b"b", b, 1, &[])?;
-    folder.add(alloc, b"c", c, 100, &[])?;
-    Ok(folder)
-}
-
-// Whether the command over these files, the plan and the script first, ends so and writes this.
-fn ends(
-    rt: &HostRuntime,
-    command: &str,
-    files: [&[u8]; 5],
-    status: Status,
-    want: &[u8],
-) -> Result<bool, Fail> {
-    let mut folder = folder_of(rt.alloc(), files)?;
-    let mut out = sink_of(rt.alloc(), &[])?;
-    let ended = run_in(rt, command, &mut folder, &mut out)?;
-    Ok(ended == status && out.bytes() == want)
+// A command over these files, the plan and the script first.
+fn over<'a>(command: &'a str, files: [&'a [u8]; 5]) -> Case<'a> {
+    Case {
+        command,
+        cuts: [65_536, 65_536, 7, 1, 100],
+        files,
+        fault: Fault::Nothing,
+    }
 }
 
 // ---- what is written
@@ -67,7 +49,7 @@ const TURNED_OUT: &[u8] =
     b"t 1 \"ann\" 1 60\nt 1 \"ann\" 1 50\np * * * *\np * * * *\n# stream items tuples 1 punctuations 0 rejected 0\n# stream bids tuples 2 punctuations 0 rejected 0\n# results 2 punctuations 2\n# peak j 3\n";
 
 #[test]
-fn a_late_sweep_of_a_chain_removes_what_an_early_one_left(rt: HostRuntime) -> Result<(), Fail> {
+fn a_late_sweep_of_a_chain_removes_what_an_early_one_left(rt: HostRuntime) {
     let files = [
         CHAIN,
         CHAIN_SCRIPT,
@@ -75,33 +57,33 @@ fn a_late_sweep_of_a_chain_removes_what_an_early_one_left(rt: HostRuntime) -> Re
         b"t 1 10\nt 1 20\np 1 *\n",
         b"p 10\np 20\n",
     ];
-    let command = "replay plan script a b c --trace";
-    assert!(rt; ends(&rt, command, files, Status::Done, CHAIN_OUT)?);
-    Ok(())
+    let case = over("replay plan script a b c --trace", files);
+    assert_eq!(rt; ends(&rt, &case, CHAIN_OUT, b""), Ok(Some(Status::Done)));
 }
 
 #[test]
-fn sweeps_below_the_low_water_ticket_alone_remove_rows(rt: HostRuntime) -> Result<(), Fail> {
-    let files = [AUCTION, LOW_SCRIPT, ITEM, BID, b""];
-    let command = "replay plan script a b --trace";
-    assert!(rt; ends(&rt, command, files, Status::Done, LOW_OUT)?);
-    Ok(())
+fn sweeps_below_the_low_water_ticket_alone_remove_rows(rt: HostRuntime) {
+    let case = over(
+        "replay plan script a b --trace",
+        [AUCTION, LOW_SCRIPT, ITEM, BID, b""],
+    );
+    assert_eq!(rt; ends(&rt, &case, LOW_OUT, b""), Ok(Some(Status::Done)));
 }
 
 #[test]
-fn probes_are_given_out_of_order(rt: HostRuntime) -> Result<(), Fail> {
-    let files = [AUCTION, TURNED_SCRIPT, OPEN_ITEM, TWO_BIDS, b""];
+fn probes_are_given_out_of_order(rt: HostRuntime) {
     for command in [
         "replay plan script a b",
         "replay plan script a b --limit 5",
         "replay plan --limit=1099511627776 script a b",
     ] {
-        assert!(rt;
-            ends(&rt, command, files, Status::Done, TURNED_OUT)?,
+        let case = over(command, [AUCTION, TURNED_SCRIPT, OPEN_ITEM, TWO_BIDS, b""]);
+        assert_eq!(rt;
+            ends(&rt, &case, TURNED_OUT, b""),
+            Ok(Some(Status::Done)),
             "at {command}"
         );
     }
-    Ok(())
 }
 
 // The same steps with a drain behind each of them.
@@ -115,16 +97,21 @@ const IN_ORDER_OUT: &[u8] =
     b"t 1 \"ann\" 1 50\nt 1 \"ann\" 1 60\np * * * *\np * * * *\n# stream items tuples 1 punctuations 0 rejected 0\n# stream bids tuples 2 punctuations 0 rejected 0\n# results 2 punctuations 2\n# peak j 3\n";
 
 #[test]
-fn drains_change_no_bytes_and_probes_under_way_are_given(rt: HostRuntime) -> Result<(), Fail> {
-    for (script, want) in [
-        (DRAINED_SCRIPT, TURNED_OUT),
-        (UNDER_WAY_SCRIPT, IN_ORDER_OUT),
+fn drains_change_no_bytes_and_probes_under_way_are_given(rt: HostRuntime) {
+    for (name, script, want) in [
+        ("drained", DRAINED_SCRIPT, TURNED_OUT),
+        ("under way", UNDER_WAY_SCRIPT, IN_ORDER_OUT),
     ] {
-        let files = [AUCTION, script, OPEN_ITEM, TWO_BIDS, b""];
-        let command = "replay plan script a b";
-        assert!(rt; ends(&rt, command, files, Status::Done, want)?);
+        let case = over(
+            "replay plan script a b",
+            [AUCTION, script, OPEN_ITEM, TWO_BIDS, b""],
+        );
+        assert_eq!(rt;
+            ends(&rt, &case, want, b""),
+            Ok(Some(Status::Done)),
+            "at {name}"
+        );
     }
-    Ok(())
 }
 
 const CLOSED_BIDS: &[u8] = b"t 1 50\np 1 *\nt 1 60\n";
@@ -134,28 +121,29 @@ const RUN_OUT: &[u8] =
     b"t 1 \"ann\" 1 50\np * * 1 *\np 1 * * *\np * * * *\np * * * *\n# stream items tuples 1 punctuations 1 rejected 0\n# stream bids tuples 1 punctuations 1 rejected 1\n# reject bids line 3 closed by line 2\n# results 1 punctuations 4\n# peak j 2\n";
 
 #[test]
-fn a_script_without_steps_gives_the_run(rt: HostRuntime) -> Result<(), Fail> {
+fn a_script_without_steps_gives_the_run(rt: HostRuntime) {
     for script in [
-        b"".as_slice(),
-        b"\n",
-        b"# no step\n\n \t\r\n# take",
-        b"drain\nsweep j items\nsweep j bids\n",
+        "",
+        "\n",
+        "# no step\n\n \t\r\n# take",
+        "drain\nsweep j items\nsweep j bids\n",
     ] {
-        let files = [AUCTION, script, ITEM, CLOSED_BIDS, b""];
-        assert!(rt; ends(&rt, "run plan a b", files, Status::Done, RUN_OUT)?);
-        assert!(rt; ends(&rt, "replay plan script a b", files, Status::Done, RUN_OUT)?);
+        let files = [AUCTION, script.as_bytes(), ITEM, CLOSED_BIDS, b""];
+        for command in ["run plan a b", "replay plan script a b"] {
+            let ended = ends(&rt, &over(command, files), RUN_OUT, b"");
+            assert_eq!(rt; ended, Ok(Some(Status::Done)), "at {command} of {script}");
+        }
     }
-    Ok(())
 }
 
 // ---- scripts that are refused
 
 #[test]
-fn a_line_that_is_no_step_is_refused_before_the_run(rt: HostRuntime) -> Result<(), Fail> {
+fn a_line_that_is_no_step_is_refused_before_the_run(rt: HostRuntime) {
     for (script, line, want) in [
         (
             b"arrive q\n".as_slice(),
-            1u64,
+            1,
             b"# refused script line 1\n".as_slice(),
         ),
         (b"# a note\n\nwalk", 3, b"# refused script line 3\n"),
@@ -173,21 +161,25 @@ fn a_line_that_is_no_step_is_refused_before_the_run(rt: HostRuntime) -> Result<(
         ),
     ] {
         let files = [AUCTION, script, OPEN_ITEM, TWO_BIDS, b""];
-        let status = Status::ScriptRefused { line };
-        assert!(rt; ends(&rt, "replay plan script a b", files, status, want)?);
         // The streams' files are not opened.
-        assert!(rt; ends(&rt, "replay plan script nosuch nosuch", files, status, want)?);
+        for command in ["replay plan script a b", "replay plan script nosuch nosuch"] {
+            let ended = ends(&rt, &over(command, files), want, b"");
+            assert_eq!(rt;
+                ended,
+                Ok(Some(Status::ScriptRefused { line })),
+                "at {command}"
+            );
+        }
     }
-    Ok(())
 }
 
 #[test]
-fn a_step_that_is_not_enabled_is_refused_behind_what_came(rt: HostRuntime) -> Result<(), Fail> {
+fn a_step_that_is_not_enabled_is_refused_behind_what_came(rt: HostRuntime) {
     for (script, items, line, want) in [
         (
             b"give j 0\n".as_slice(),
             OPEN_ITEM,
-            1u64,
+            1,
             b"# refused script line 1\n".as_slice(),
         ),
         (b"take\n", OPEN_ITEM, 1, b"# refused script line 1\n"),
@@ -218,151 +210,163 @@ fn a_step_that_is_not_enabled_is_refused_behind_what_came(rt: HostRuntime) -> Re
             b"p * * * *\n# refused script line 2\n",
         ),
     ] {
-        let files = [AUCTION, script, items, TWO_BIDS, b""];
+        let case = over(
+            "replay plan script a b",
+            [AUCTION, script, items, TWO_BIDS, b""],
+        );
         let status = Status::ScriptRefused { line };
-        assert!(rt; ends(&rt, "replay plan script a b", files, status, want)?);
+        assert_eq!(rt; ends(&rt, &case, want, b""), Ok(Some(status)));
     }
-    Ok(())
+}
+
+// How a replay ends of whose script this is the first step, with line feeds behind it, so many bytes in all.
+fn padded_script_ends(
+    rt: &HostRuntime,
+    step: &[u8],
+    size: usize,
+    want: &[u8],
+) -> Result<Option<Status>, NoMemory> {
+    let script = padded(rt.alloc(), step, size)?;
+    let files = [AUCTION, script.as_slice(), ITEM, CLOSED_BIDS, b""];
+    ends(rt, &over("replay plan script a b", files), want, b"")
 }
 
 #[test]
-fn a_script_of_more_bytes_than_may_be_is_refused(rt: HostRuntime) -> Result<(), Fail> {
-    let long = padded(rt.alloc(), b"take\n", 1_048_577)?;
+fn a_script_of_more_bytes_than_may_be_is_refused(rt: HostRuntime) {
     let status = Status::Limit {
         what: LimitOf::Script,
     };
-    let line = b"# stopped limit script\n";
-    let files = [AUCTION, long.as_slice(), ITEM, CLOSED_BIDS, b""];
-    assert!(rt; ends(&rt, "replay plan script a b", files, status, line)?);
-    let longest = padded(rt.alloc(), b"drain\n", 1_048_576)?;
-    let files = [AUCTION, longest.as_slice(), ITEM, CLOSED_BIDS, b""];
-    assert!(rt; ends(&rt, "replay plan script a b", files, Status::Done, RUN_OUT)?);
-    Ok(())
+    let ended = padded_script_ends(&rt, b"take\n", 1_048_577, b"# stopped limit script\n");
+    assert_eq!(rt; ended, Ok(Some(status)));
+    let ended = padded_script_ends(&rt, b"drain\n", 1_048_576, RUN_OUT);
+    assert_eq!(rt; ended, Ok(Some(Status::Done)));
 }
 
 // ---- faults and limits
 
-// How a replay ends where these openings, and these reads of the script and of the second file, fail.
-fn fails_so(
-    rt: &HostRuntime,
-    script: &[u8],
-    opens: &[u64],
-    reads: [&[u64]; 2],
-    out: &mut MemSink,
-) -> Result<Status, Fail> {
-    let alloc = rt.alloc();
-    let [of_script, of_bids] = reads;
-    let mut folder = MemFolder::new(alloc, opens)?;
-    folder.add(alloc, b"plan", AUCTION, 65_536, &[])?;
-    folder.add(alloc, b"script", script, 10, of_script)?;
-    folder.add(alloc, b"items", OPEN_ITEM, 65_536, &[])?;
-    folder.add(alloc, b"bids", b"t 1 50\np 9 *\n", 7, of_bids)?;
-    run_in(rt, "replay plan script items bids", &mut folder, out)
+// A replay over the auction of which a call fails.
+fn failing<'a>(script: &'a [u8], fault: Fault) -> Case<'a> {
+    Case {
+        command: "replay plan script a b",
+        cuts: [65_536, 10, 65_536, 7, 65_536],
+        files: [AUCTION, script, OPEN_ITEM, b"t 1 50\np 9 *\n", b""],
+        fault,
+    }
 }
 
 const STEPS: &[u8] =
     b"arrive items\narrive bids\ntake\ntake\ngive j 1\narrive bids\narrive bids\ntake\n";
 
 #[test]
-fn each_operand_of_a_replay_that_fails_is_named(rt: HostRuntime) -> Result<(), Fail> {
-    for (opens, script, bids, want) in [
+fn each_operand_of_a_replay_that_fails_is_named(rt: HostRuntime) {
+    for (fault, want) in [
         (
-            [0u64].as_slice(),
-            [].as_slice(),
-            [].as_slice(),
+            Fault::Opening(0),
             b"# stopped open fault operand 1\n".as_slice(),
         ),
-        (&[1], &[], &[], b"# stopped open fault operand 2\n"),
-        (&[2], &[], &[], b"# stopped open fault operand 3\n"),
-        (&[3], &[], &[], b"# stopped open fault operand 4\n"),
-        (&[], &[0], &[], b"# stopped read fault operand 2\n"),
-        (&[], &[4], &[], b"# stopped read fault operand 2\n"),
-        (&[], &[], &[0], b"# stopped read fault operand 4\n"),
+        (Fault::Opening(1), b"# stopped open fault operand 2\n"),
+        (Fault::Opening(2), b"# stopped open fault operand 3\n"),
+        (Fault::Opening(3), b"# stopped open fault operand 4\n"),
+        (Fault::Read(SCRIPT, 0), b"# stopped read fault operand 2\n"),
+        (Fault::Read(SCRIPT, 4), b"# stopped read fault operand 2\n"),
+        (Fault::Read(B, 0), b"# stopped read fault operand 4\n"),
         // The script's last step but one reads behind the last line.
         (
-            &[],
-            &[],
-            &[2],
+            Fault::Read(B, 2),
             b"t 1 \"ann\" 1 50\np * * 9 *\n# stopped read fault operand 4\n",
         ),
     ] {
-        let mut out = sink_of(rt.alloc(), &[])?;
-        let status = fails_so(&rt, STEPS, opens, [script, bids], &mut out)?;
-        assert_eq!(rt; status.number(), 3);
-        assert_eq!(rt; out.bytes(), want);
+        assert_eq!(rt;
+            ends_with(&rt, &failing(STEPS, fault), want, b""),
+            Ok(Some(3))
+        );
     }
-    Ok(())
 }
 
 const UNREAD_OUT: &[u8] = b"t 1 \"ann\" 1 50\n# stopped read fault operand 4\n";
 
 // The streams' files are read on behind the last step as in a run.
 #[test]
-fn a_read_behind_the_last_step_fails(rt: HostRuntime) -> Result<(), Fail> {
-    for script in [b"".as_slice(), b"arrive items\narrive bids\n"] {
-        let mut out = sink_of(rt.alloc(), &[])?;
-        let status = fails_so(&rt, script, &[], [&[], &[1]], &mut out)?;
-        assert_eq!(rt; status, Status::ReadFault { operand: 4 });
-        assert_eq!(rt; out.bytes(), UNREAD_OUT);
+fn a_read_behind_the_last_step_fails(rt: HostRuntime) {
+    for script in ["", "arrive items\narrive bids\n"] {
+        let case = failing(script.as_bytes(), Fault::Read(B, 1));
+        let status = Status::ReadFault { operand: 4 };
+        assert_eq!(rt;
+            ends(&rt, &case, UNREAD_OUT, b""),
+            Ok(Some(status)),
+            "at {script}"
+        );
     }
-    Ok(())
 }
 
-// Whether a replay whose write of this line fails, counted from 0, ends with a front of its bytes, of this length.
-fn breaks_off(rt: &HostRuntime, nth: u64, front: usize) -> Result<bool, Fail> {
-    let mut folder = folder_of(rt.alloc(), [AUCTION, LOW_SCRIPT, ITEM, BID, b""])?;
-    let mut out = sink_of(rt.alloc(), &[nth])?;
-    let status = run_in(rt, "replay plan script a b --trace", &mut folder, &mut out)?;
-    let bytes = out.bytes();
-    Ok(status == Status::WriteFault && bytes.len() == front && LOW_OUT.starts_with(bytes))
+// The numbers of writes that fail, and how many bytes were written before.
+#[test]
+fn each_write_of_a_replay_fails_in_turn(rt: HostRuntime) {
+    for (nth, left) in [
+        (0, 0),
+        (1, 15),
+        (2, 41),
+        (3, 51),
+        (4, 73),
+        (5, 83),
+        (6, 93),
+        (7, 103),
+        (8, 153),
+        (9, 202),
+        (10, 229),
+    ] {
+        let case = Case {
+            fault: Fault::Write(nth),
+            ..over(
+                "replay plan script a b --trace",
+                [AUCTION, LOW_SCRIPT, ITEM, BID, b""],
+            )
+        };
+        let ended = ends(&rt, &case, front(LOW_OUT, left), b"");
+        assert_eq!(rt; ended, Ok(Some(Status::WriteFault)), "at {nth}");
+    }
+}
+
+// The last step, on line 6, is not enabled.
+const REFUSED_SCRIPT: &[u8] = b"arrive items\narrive bids\ntake\ntake\ngive j 1\ngive j 1\n";
+
+const REFUSED_OUT: &[u8] = b"t 1 \"ann\" 1 50\n# refused script line 6\n";
+
+// How it ends where this write fails, counted from 0, and leaves so many bytes.
+fn refused_ends(rt: &HostRuntime, nth: u64, left: usize) -> Result<Option<Status>, NoMemory> {
+    let case = Case {
+        fault: Fault::Write(nth),
+        ..over(
+            "replay plan script a b",
+            [AUCTION, REFUSED_SCRIPT, OPEN_ITEM, TWO_BIDS, b""],
+        )
+    };
+    ends(rt, &case, front(REFUSED_OUT, left), b"")
 }
 
 #[test]
-fn each_write_of_a_replay_fails_in_turn(rt: HostRuntime) -> Result<(), Fail> {
-    let mut nth = 0u64;
-    for front in [0usize, 15, 41, 51, 73, 83, 93, 103, 153, 202, 229] {
-        assert!(rt; breaks_off(&rt, nth, front)?, "at {nth}");
-        nth = nth.saturating_add(1);
+fn the_line_of_a_refused_step_that_is_not_written_changes_no_status(rt: HostRuntime) {
+    for (nth, left) in [(1, 15), (2, 39)] {
+        let refused = Status::ScriptRefused { line: 6 };
+        assert_eq!(rt; refused_ends(&rt, nth, left), Ok(Some(refused)), "at {nth}");
     }
-    Ok(())
-}
-
-// How a replay ends of which the last step, on line 6, is not enabled, where this write fails, counted from 0, and whether it leaves
-// so many bytes.
-fn breaks_off_refused(rt: &HostRuntime, nth: u64, front: usize) -> Result<Option<Status>, Fail> {
-    let script = b"arrive items\narrive bids\ntake\ntake\ngive j 1\ngive j 1\n".as_slice();
-    let mut folder = folder_of(rt.alloc(), [AUCTION, script, OPEN_ITEM, TWO_BIDS, b""])?;
-    let mut out = sink_of(rt.alloc(), &[nth])?;
-    let status = run_in(rt, "replay plan script a b", &mut folder, &mut out)?;
-    let bytes = b"t 1 \"ann\" 1 50\n# refused script line 6\n".as_slice();
-    if out.bytes().len() == front && bytes.starts_with(out.bytes()) {
-        return Ok(Some(status));
-    }
-    Ok(None)
-}
-
-#[test]
-fn the_line_of_a_refused_step_that_is_not_written_changes_no_status(
-    rt: HostRuntime,
-) -> Result<(), Fail> {
-    let refused = Some(Status::ScriptRefused { line: 6 });
-    assert_eq!(rt; breaks_off_refused(&rt, 1, 15)?, refused);
-    assert_eq!(rt; breaks_off_refused(&rt, 2, 39)?, refused);
-    Ok(())
 }
 
 // What was handed out before the step is written behind the refusal, and likewise behind a read that fails.
 #[test]
-fn a_refusal_and_a_fault_stand_before_a_write_that_fails_behind_them(
-    rt: HostRuntime,
-) -> Result<(), Fail> {
-    let refused = Some(Status::ScriptRefused { line: 6 });
-    assert_eq!(rt; breaks_off_refused(&rt, 0, 0)?, refused);
-    let mut out = sink_of(rt.alloc(), &[0])?;
-    let status = fails_so(&rt, STEPS, &[], [&[], &[2]], &mut out)?;
-    assert_eq!(rt; status, Status::ReadFault { operand: 4 });
-    assert!(rt; out.bytes().is_empty());
-    Ok(())
+fn a_refusal_and_a_fault_stand_before_a_write_that_fails_behind_them(rt: HostRuntime) {
+    let refused = Status::ScriptRefused { line: 6 };
+    assert_eq!(rt; refused_ends(&rt, 0, 0), Ok(Some(refused)));
+    let fault = Fault::Both {
+        place: B,
+        read: 2,
+        write: 0,
+    };
+    let unread = Status::ReadFault { operand: 4 };
+    assert_eq!(rt;
+        ends(&rt, &failing(STEPS, fault), b"", b""),
+        Ok(Some(unread))
+    );
 }
 
 // A join over a join.
@@ -372,7 +376,7 @@ const TOWER: &[u8] =
 const AT_UPPER: &[u8] = b"t 1 1 1\n# stopped limit node k\n";
 
 #[test]
-fn a_limit_is_met_at_a_step_and_behind_the_last(rt: HostRuntime) -> Result<(), Fail> {
+fn a_limit_is_met_at_a_step_and_behind_the_last(rt: HostRuntime) {
     for (command, files, node, want) in [
         // At an arrival.
         (
@@ -384,7 +388,7 @@ fn a_limit_is_met_at_a_step_and_behind_the_last(rt: HostRuntime) -> Result<(), F
                 b"t 1 50\nt 2 60\n".as_slice(),
                 b"".as_slice(),
             ],
-            2u32,
+            2,
             b"t 1 \"ann\" 1 50\n# stopped limit node j\n".as_slice(),
         ),
         // At an arrival behind the script.
@@ -430,21 +434,21 @@ fn a_limit_is_met_at_a_step_and_behind_the_last(rt: HostRuntime) -> Result<(), F
         let status = Status::Limit {
             what: LimitOf::Node(node),
         };
-        assert!(rt; ends(&rt, command, files, status, want)?, "at {command}");
+        let ended = ends(&rt, &over(command, files), want, b"");
+        assert_eq!(rt; ended, Ok(Some(status)), "at {command}");
     }
-    Ok(())
 }
 
 // ---- words
 
 // The plan is asked first, then the number of files, whether it is safe, and then the script.
 #[test]
-fn refusals_come_in_their_order(rt: HostRuntime) -> Result<(), Fail> {
+fn refusals_come_in_their_order(rt: HostRuntime) {
     for (command, plan, number, want) in [
         (
             "replay nosuch script a b",
             AUCTION,
-            3u8,
+            3,
             b"# stopped open fault operand 1\n".as_slice(),
         ),
         (
@@ -484,19 +488,20 @@ fn refusals_come_in_their_order(rt: HostRuntime) -> Result<(), Fail> {
             b"# refused script line 1\n",
         ),
     ] {
-        let mut folder = folder_of(rt.alloc(), [plan, b"walk", b"", b"", b""])?;
-        let mut out = sink_of(rt.alloc(), &[])?;
-        let status = run_in(&rt, command, &mut folder, &mut out)?;
-        assert_eq!(rt; status.number(), number, "at {command}");
-        assert_eq!(rt; out.bytes(), want, "at {command}");
+        let ended = ends_with(
+            &rt,
+            &over(command, [plan, b"walk", b"", b"", b""]),
+            want,
+            b"",
+        );
+        assert_eq!(rt; ended, Ok(Some(number)), "at {command}");
     }
-    Ok(())
 }
 
 #[test]
-fn words_of_a_replay(rt: HostRuntime) -> Result<(), Fail> {
+fn words_of_a_replay(rt: HostRuntime) {
     for (command, number) in [
-        ("replay plan script a b", 0u8),
+        ("replay plan script a b", 0),
         ("replay plan script a b --trace", 0),
         ("replay --limit 9 --trace plan script a b", 0),
         ("replay plan --trace script --limit=9 a b", 0),
@@ -514,10 +519,7 @@ fn words_of_a_replay(rt: HostRuntime) -> Result<(), Fail> {
         ("replay plan script a b --print", 64),
         ("replay plan -script a b", 64),
     ] {
-        let mut folder = folder_of(rt.alloc(), [AUCTION, b"drain\n", b"", b"", b""])?;
-        let mut out = sink_of(rt.alloc(), &[])?;
-        let status = run_in(&rt, command, &mut folder, &mut out)?;
-        assert_eq!(rt; status.number(), number, "at {command}");
+        let case = over(command, [AUCTION, b"drain\n", b"", b"", b""]);
+        assert_eq!(rt; number_of(&rt, &case), Ok(number), "at {command}");
     }
-    Ok(())
 }

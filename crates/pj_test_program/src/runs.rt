@@ -1,13 +1,13 @@
 // What no clause says: the exact bytes of worked files, whatever the pieces of the reads, and every failure in turn.
 ghost use Rattle.std.specs.Prelude.{[], false};
 
-use crate::operators::runs;
-use pj_engine::{Status, run_words};
-use pj_io::{Failed, MemFolder, MemSink, Sink};
-use pj_line::first_piece;
+use crate::cases::{
+    A, B, Case, Fault, PIECES, WHOLE, ends, ends_by, ends_with, folder_of, front, run_in, words_of,
+};
+use pj_engine::{LimitOf, Status};
+use pj_io::{Failed, Sink};
 use pj_value::{List, NoMemory};
 use std::alloc::Global;
-use std::test::Fail;
 
 const PLAN: &[u8] = b"plan 1\nstream s k:int v:text\noutput s\n";
 
@@ -68,66 +68,38 @@ pub(crate) const UNSAFE: &[u8] =
 
 const STOPPED: &[u8] = b"# stopped read fault operand 2\n";
 
-// The words of a command.
-fn words_of(alloc: Global, command: &str) -> Result<Vec<String>, Fail> {
-    let mut words = Vec::new(alloc);
-    for word in command.split(' ') {
-        words.push(String::from_str(alloc, word)?)?;
+// A run over a plan and one file, by reads of so many bytes of it.
+fn over<'a>(plan: &'a [u8], file: &'a [u8], cut: usize) -> Case<'a> {
+    Case {
+        command: "run plan a",
+        cuts: [65_536, 65_536, cut, 65_536, 65_536],
+        files: [plan, b"", file, b"", b""],
+        fault: Fault::Nothing,
     }
-    Ok(words)
 }
 
-pub(crate) fn run_in<K: Sink>(
-    rt: &HostRuntime,
-    command: &str,
-    folder: &mut MemFolder,
-    out: &mut K,
-) -> Result<Status, Fail> {
-    let words = words_of(rt.alloc(), command)?;
-    Ok(run_words(rt, words.as_slice(), folder, out))
-}
-
-// How a run on a plan and a file ends, and what it writes. These reads of the file fail.
-fn run_on(
-    rt: &HostRuntime,
-    plan: &[u8],
-    file: &[u8],
-    cut: usize,
-    fails: &[u64],
-    out: &mut MemSink,
-) -> Result<Status, Fail> {
-    let alloc = rt.alloc();
-    let mut folder = MemFolder::new(alloc, &[])?;
-    folder.add(alloc, b"plan", plan, 65_536, &[])?;
-    folder.add(alloc, b"file", file, cut.max(1), fails)?;
-    run_in(rt, "run plan file", &mut folder, out)
-}
-
-// A sink that takes whole pieces, of which these fail.
-pub(crate) fn sink_of(alloc: Global, fails: &[u64]) -> Result<MemSink, Fail> {
-    let mut out = MemSink::new(alloc, 100_000, fails)?;
-    out.room(200_000)?;
-    Ok(out)
-}
-
-// Whether the run on a file by reads of so many bytes ends well and writes this.
-fn writes(rt: &HostRuntime, file: &[u8], cut: usize, want: &[u8]) -> Result<bool, Fail> {
-    let mut out = sink_of(rt.alloc(), &[])?;
-    let status = run_on(rt, PLAN, file, cut, &[], &mut out)?;
-    Ok(status == Status::Done && out.bytes() == want)
+// The pieces by which the run on a file does not end well or writes something else.
+fn wrong_pieces(rt: &HostRuntime, file: &[u8], want: &[u8]) -> Result<Option<usize>, NoMemory> {
+    for cut in [1, 7, 4096] {
+        if ends(rt, &over(PLAN, file, cut), want, b"")? != Some(Status::Done) {
+            return Ok(Some(cut));
+        }
+    }
+    Ok(None)
 }
 
 #[test]
-fn worked_files_in_any_pieces(rt: HostRuntime) -> Result<(), Fail> {
-    for cut in [1usize, 7, 4096] {
-        assert!(rt; writes(&rt, ODD, cut, ODD_OUT)?);
-        assert!(rt; writes(&rt, PATTERNS, cut, PATTERNS_OUT)?);
-        assert!(rt; writes(&rt, VALUES, cut, VALUES_OUT)?);
-        assert!(rt; writes(&rt, CLOSED, cut, CLOSED_OUT)?);
-        assert!(rt; writes(&rt, REJECTS, cut, REJECTS_OUT)?);
-        assert!(rt; writes(&rt, b"", cut, NOTHING_OUT)?);
+fn worked_files_in_any_pieces(rt: HostRuntime) {
+    for (name, file, want) in [
+        ("elements and rejects", ODD, ODD_OUT),
+        ("patterns", PATTERNS, PATTERNS_OUT),
+        ("values", VALUES, VALUES_OUT),
+        ("a closed tuple", CLOSED, CLOSED_OUT),
+        ("rejects", REJECTS, REJECTS_OUT),
+        ("nothing", b"", NOTHING_OUT),
+    ] {
+        assert_eq!(rt; wrong_pieces(&rt, file, want), Ok(None), "at {name}");
     }
-    Ok(())
 }
 
 // Appends a tuple of a text of so many letters.
@@ -140,255 +112,275 @@ fn append_letters(count: usize, file: &mut List<u8>) -> Result<(), NoMemory> {
     Ok(())
 }
 
-#[test]
-fn lines_of_the_greatest_length_and_longer(rt: HostRuntime) -> Result<(), Fail> {
-    let alloc = rt.alloc();
+// A line of the greatest length, one that is longer, and a short one.
+fn long_lines(alloc: Global) -> Result<List<u8>, NoMemory> {
     let mut file = List::new(alloc);
     append_letters(65_532, &mut file)?;
-    let mut want = List::copy_of(alloc, file.as_slice())?;
     append_letters(65_533, &mut file)?;
     file.append(b"t \"z\"")?;
-    want.append(
-        b"t \"z\"\np *\n# stream s tuples 2 punctuations 0 rejected 1\n# reject s line 2 too long\n# results 2 punctuations 1\n",
-    )?;
-    let plan = b"plan 1\nstream s w:text\noutput s\n";
-    let mut out = sink_of(alloc, &[])?;
-    let status = run_on(&rt, plan, file.as_slice(), 1 << 20, &[], &mut out)?;
-    assert_eq!(rt; status, Status::Done);
-    assert!(rt; out.bytes() == want.as_slice());
-    Ok(())
+    Ok(file)
 }
 
-// Whether the auction over these files ends well and writes this.
-fn auctions(rt: &HostRuntime, items: &[u8], bids: &[u8], want: &[u8]) -> Result<bool, Fail> {
-    let alloc = rt.alloc();
-    let mut folder = MemFolder::new(alloc, &[])?;
-    folder.add(alloc, b"plan", AUCTION, 100, &[])?;
-    folder.add(alloc, b"items", items, 7, &[])?;
-    folder.add(alloc, b"bids", bids, 1, &[])?;
-    let mut out = sink_of(alloc, &[])?;
-    let status = run_in(rt, "run plan items bids", &mut folder, &mut out)?;
-    Ok(status == Status::Done && out.bytes() == want)
+// What is written behind the first of them.
+const LONG_OUT: &[u8] =
+    b"t \"z\"\np *\n# stream s tuples 2 punctuations 0 rejected 1\n# reject s line 2 too long\n# results 2 punctuations 1\n";
+
+fn long_lines_end(rt: &HostRuntime) -> Result<Option<Status>, NoMemory> {
+    let file = long_lines(rt.alloc())?;
+    let case = over(
+        b"plan 1\nstream s w:text\noutput s\n",
+        file.as_slice(),
+        1 << 20,
+    );
+    ends(rt, &case, front(file.as_slice(), 65_537), LONG_OUT)
 }
 
 #[test]
-fn two_streams_are_joined(rt: HostRuntime) -> Result<(), Fail> {
-    for (items, bids, want) in [
+fn lines_of_the_greatest_length_and_longer(rt: HostRuntime) {
+    assert_eq!(rt; long_lines_end(&rt), Ok(Some(Status::Done)));
+}
+
+// A run of the auction over these files.
+fn auction<'a>(items: &'a [u8], bids: &'a [u8]) -> Case<'a> {
+    Case {
+        command: "run plan a b",
+        cuts: PIECES,
+        files: [AUCTION, b"", items, bids, b""],
+        fault: Fault::Nothing,
+    }
+}
+
+#[test]
+fn two_streams_are_joined(rt: HostRuntime) {
+    for (name, items, bids, want) in [
         (
+            "a bid behind its punctuation",
             b"t 1 \"ann\"\np 1 *\n".as_slice(),
             b"t 1 50\np 1 *\nt 1 60\n".as_slice(),
             AUCTION_OUT,
         ),
-        // Both files are empty.
         (
+            "empty files",
             b"",
             b"",
             b"p * * * *\np * * * *\n# stream items tuples 0 punctuations 0 rejected 0\n# stream bids tuples 0 punctuations 0 rejected 0\n# results 0 punctuations 2\n# peak j 0\n",
         ),
-        // A stream that ends in its first line.
         (
+            "a stream that ends in its first line",
             b"p * *\nt 1 \"x\"\n",
             b"",
             b"p * * * *\np * * * *\np * * * *\n# stream items tuples 0 punctuations 1 rejected 1\n# reject items line 2 closed by line 1\n# stream bids tuples 0 punctuations 0 rejected 0\n# results 0 punctuations 3\n# peak j 0\n",
         ),
-        // The items' punctuation waits until the last sweep, though it came before the result.
+        // That of the items waits until the last sweep, though it came before the result.
         (
+            "a punctuation that waits",
             b"t 1 \"ann\"\np 1 *\n",
             b"p 9 *\nt 1 50\n",
             b"p * * 9 *\nt 1 \"ann\" 1 50\np * * * *\np 1 * * *\np * * * *\n# stream items tuples 1 punctuations 1 rejected 0\n# stream bids tuples 1 punctuations 1 rejected 0\n# results 1 punctuations 4\n# peak j 2\n",
         ),
-        // Equal rows count as often as they come.
+        // They count as often as they come.
         (
+            "equal rows",
             b"t 1 \"a\"\nt 1 \"a\"\n",
             b"t 1 5\nt 1 5\nt 1 5\n",
             b"t 1 \"a\" 1 5\nt 1 \"a\" 1 5\nt 1 \"a\" 1 5\nt 1 \"a\" 1 5\nt 1 \"a\" 1 5\nt 1 \"a\" 1 5\np * * * *\np * * * *\n# stream items tuples 2 punctuations 0 rejected 0\n# stream bids tuples 3 punctuations 0 rejected 0\n# results 6 punctuations 2\n# peak j 4\n",
         ),
     ] {
-        assert!(rt; auctions(&rt, items, bids, want)?);
+        assert_eq!(rt;
+            ends(&rt, &auction(items, bids), want, b""),
+            Ok(Some(Status::Done)),
+            "at {name}"
+        );
     }
-    Ok(())
 }
 
-// Whether the auction ends with a failed write of this line, counted from 0, behind so many bytes of those before it.
-fn fails_at(rt: &HostRuntime, nth: u64, front: usize) -> Result<bool, Fail> {
-    let alloc = rt.alloc();
-    let mut folder = MemFolder::new(alloc, &[])?;
-    folder.add(alloc, b"plan", AUCTION, 100, &[])?;
-    folder.add(alloc, b"items", b"t 1 \"ann\"\np 1 *\n", 100, &[])?;
-    folder.add(alloc, b"bids", b"t 1 50\np 1 *\nt 1 60\n", 100, &[])?;
-    let mut out = sink_of(alloc, &[nth])?;
-    let status = run_in(rt, "run plan items bids", &mut folder, &mut out)?;
-    Ok(
-        status == Status::WriteFault
-            && out.bytes().len() == front
-            && AUCTION_OUT.starts_with(out.bytes()),
-    )
-}
-
+// The numbers of writes that fail, and how many bytes were written before.
 #[test]
-fn each_write_of_a_join_fails_in_turn(rt: HostRuntime) -> Result<(), Fail> {
-    let mut nth = 0u64;
-    for front in [0usize, 15, 25, 35, 45, 55, 105, 154, 192, 219] {
-        assert!(rt; fails_at(&rt, nth, front)?, "at {nth}");
-        nth = nth.saturating_add(1);
+fn each_write_of_a_join_fails_in_turn(rt: HostRuntime) {
+    for (nth, left) in [
+        (0, 0),
+        (1, 15),
+        (2, 25),
+        (3, 35),
+        (4, 45),
+        (5, 55),
+        (6, 105),
+        (7, 154),
+        (8, 192),
+        (9, 219),
+    ] {
+        let case = Case {
+            cuts: [100; 5],
+            fault: Fault::Write(nth),
+            ..auction(b"t 1 \"ann\"\np 1 *\n", b"t 1 50\np 1 *\nt 1 60\n")
+        };
+        let ended = ends(&rt, &case, front(AUCTION_OUT, left), b"");
+        assert_eq!(rt; ended, Ok(Some(Status::WriteFault)), "at {nth}");
     }
-    Ok(())
 }
 
 // The third tuples of `a` and of `c` each complete a row, and `a` has its turn first.
 #[test]
-fn three_streams_are_joined(rt: HostRuntime) -> Result<(), Fail> {
-    let alloc = rt.alloc();
-    let mut folder = MemFolder::new(alloc, &[])?;
-    folder.add(alloc, b"plan", THREE, 100, &[])?;
-    folder.add(alloc, b"a", b"t 2 \"z\"\nt 3 \"w\"\nt 1 \"x\"\n", 7, &[])?;
-    folder.add(alloc, b"b", b"t 2 6\nt 1 5\nt 3 7\n", 1, &[])?;
-    folder.add(alloc, b"c", b"t 10 1\nt 30 4\nt 20 2\n", 100, &[])?;
-    let mut out = sink_of(alloc, &[])?;
-    let status = run_in(&rt, "run plan a b c", &mut folder, &mut out)?;
-    assert_eq!(rt; status, Status::Done);
-    assert_eq!(rt; out.bytes(), THREE_OUT);
-    Ok(())
+fn three_streams_are_joined(rt: HostRuntime) {
+    let case = Case {
+        command: "run plan a b c",
+        cuts: PIECES,
+        files: [
+            THREE,
+            b"",
+            b"t 2 \"z\"\nt 3 \"w\"\nt 1 \"x\"\n",
+            b"t 2 6\nt 1 5\nt 3 7\n",
+            b"t 10 1\nt 30 4\nt 20 2\n",
+        ],
+        fault: Fault::Nothing,
+    };
+    assert_eq!(rt; ends(&rt, &case, THREE_OUT, b""), Ok(Some(Status::Done)));
 }
 
-// Whether the failure of this read of the file, by 7 bytes a read, leaves the lines that were read whole, so many bytes.
-fn leaves(rt: &HostRuntime, nth: u64, front: usize) -> Result<bool, Fail> {
-    let mut out = sink_of(rt.alloc(), &[])?;
-    let status = run_on(rt, PLAN, ODD, 7, &[nth], &mut out)?;
-    let (lines, line) = out.bytes().split_at(front.min(out.bytes().len()));
-    Ok(status == Status::ReadFault { operand: 2 } && ODD_OUT.starts_with(lines) && line == STOPPED)
+// The file has 18 reads of at most 7 bytes, and one that finds its end; the lines that were read whole are written.
+#[test]
+fn each_read_fails_in_turn(rt: HostRuntime) {
+    for (nth, left) in [
+        (0, 0),
+        (1, 0),
+        (2, 8),
+        (3, 8),
+        (4, 8),
+        (5, 8),
+        (6, 14),
+        (7, 14),
+        (8, 14),
+        (9, 14),
+        (10, 23),
+        (11, 23),
+        (12, 23),
+        (13, 23),
+        (14, 23),
+        (15, 23),
+        (16, 23),
+        (17, 32),
+        (18, 32),
+    ] {
+        let case = Case {
+            fault: Fault::Read(A, nth),
+            ..over(PLAN, ODD, 7)
+        };
+        let ended = ends(&rt, &case, front(ODD_OUT, left), STOPPED);
+        assert_eq!(rt;
+            ended,
+            Ok(Some(Status::ReadFault { operand: 2 })),
+            "at {nth}"
+        );
+    }
 }
 
 #[test]
-fn each_read_fails_in_turn(rt: HostRuntime) -> Result<(), Fail> {
-    // The file has 18 reads of at most 7 bytes, and one that finds its end.
-    let fronts = [
-        0usize, 0, 8, 8, 8, 8, 14, 14, 14, 14, 23, 23, 23, 23, 23, 23, 23, 32, 32,
-    ];
-    let mut nth = 0u64;
-    for front in fronts {
-        assert!(rt; leaves(&rt, nth, front)?, "at {nth}");
-        nth = nth.saturating_add(1);
-    }
-    Ok(())
-}
-
-// A call that fails: an opening by its number, or a read of the file of this name.
-#[derive(Clone, Copy)]
-enum Planned {
-    Opening(u64),
-    Read(&'static str, u64),
-}
-
-// The reads of the file of this name that fail.
-fn fails_of(planned: Planned, name: &str, alloc: Global) -> Result<List<u64>, NoMemory> {
-    let mut fails = List::new(alloc);
-    if let Planned::Read(of, nth) = planned {
-        if of == name {
-            fails.push(nth)?;
-        }
-    }
-    Ok(fails)
-}
-
-// The openings that fail.
-fn opens_of(planned: Planned, alloc: Global) -> Result<List<u64>, NoMemory> {
-    let mut opens = List::new(alloc);
-    if let Planned::Opening(nth) = planned {
-        opens.push(nth)?;
-    }
-    Ok(opens)
-}
-
-// A folder with the auction's plan and two files, in which this call fails.
-fn failing(alloc: Global, planned: Planned) -> Result<MemFolder, Fail> {
-    let opens = opens_of(planned, alloc)?;
-    let plan = fails_of(planned, "plan", alloc)?;
-    let items = fails_of(planned, "items", alloc)?;
-    let bids = fails_of(planned, "bids", alloc)?;
-    let mut folder = MemFolder::new(alloc, opens.as_slice())?;
-    folder.add(alloc, b"plan", AUCTION, 65_536, plan.as_slice())?;
-    folder.add(alloc, b"items", b"t 1 \"ann\"\n", 65_536, items.as_slice())?;
-    folder.add(alloc, b"bids", b"t 1 50\np 9 *\n", 7, bids.as_slice())?;
-    Ok(folder)
-}
-
-#[test]
-fn each_file_that_fails_is_named(rt: HostRuntime) -> Result<(), Fail> {
-    let cases = [
+fn each_file_that_fails_is_named(rt: HostRuntime) {
+    for (fault, status, want) in [
         (
-            Planned::Opening(0),
+            Fault::Opening(0),
+            Status::OpenFault { operand: 1 },
             b"# stopped open fault operand 1\n".as_slice(),
         ),
-        (Planned::Opening(1), b"# stopped open fault operand 2\n"),
-        (Planned::Opening(2), b"# stopped open fault operand 3\n"),
         (
-            Planned::Read("plan", 0),
+            Fault::Opening(1),
+            Status::OpenFault { operand: 2 },
+            b"# stopped open fault operand 2\n",
+        ),
+        (
+            Fault::Opening(2),
+            Status::OpenFault { operand: 3 },
+            b"# stopped open fault operand 3\n",
+        ),
+        (
+            Fault::Read(0, 0),
+            Status::ReadFault { operand: 1 },
             b"# stopped read fault operand 1\n",
         ),
         (
-            Planned::Read("items", 0),
+            Fault::Read(A, 0),
+            Status::ReadFault { operand: 2 },
             b"# stopped read fault operand 2\n",
         ),
         (
-            Planned::Read("bids", 0),
+            Fault::Read(B, 0),
+            Status::ReadFault { operand: 3 },
             b"# stopped read fault operand 3\n",
         ),
         (
-            Planned::Read("bids", 2),
+            Fault::Read(B, 2),
+            Status::ReadFault { operand: 3 },
             b"t 1 \"ann\" 1 50\np * * 9 *\n# stopped read fault operand 3\n",
         ),
-    ];
-    for (planned, want) in cases {
-        let mut folder = failing(rt.alloc(), planned)?;
-        let mut out = sink_of(rt.alloc(), &[])?;
-        let status = run_in(&rt, "run plan items bids", &mut folder, &mut out)?;
-        assert_eq!(rt; status.number(), 3);
-        assert_eq!(rt; out.bytes(), want);
+    ] {
+        let case = Case {
+            cuts: [65_536, 65_536, 65_536, 7, 65_536],
+            fault,
+            ..auction(b"t 1 \"ann\"\n", b"t 1 50\np 9 *\n")
+        };
+        assert_eq!(rt; ends(&rt, &case, want, b""), Ok(Some(status)));
     }
-    Ok(())
 }
 
 // A file that is not there stops the call before anything is written but the status' line.
 #[test]
-fn a_missing_file_is_named(rt: HostRuntime) -> Result<(), Fail> {
-    let alloc = rt.alloc();
-    let mut folder = MemFolder::new(alloc, &[])?;
-    folder.add(alloc, b"plan", AUCTION, 100, &[])?;
-    folder.add(alloc, b"items", b"t 1 \"ann\"\n", 100, &[])?;
-    for (command, want) in [
+fn a_missing_file_is_named(rt: HostRuntime) {
+    for (command, operand, want) in [
         (
-            "run plan items nosuch",
+            "run plan a nosuch",
+            3,
             b"# stopped open fault operand 3\n".as_slice(),
         ),
-        ("run plan nosuch items", b"# stopped open fault operand 2\n"),
-        (
-            "run nosuch items items",
-            b"# stopped open fault operand 1\n",
-        ),
+        ("run plan nosuch a", 2, b"# stopped open fault operand 2\n"),
+        ("run nosuch a a", 1, b"# stopped open fault operand 1\n"),
     ] {
-        let mut out = sink_of(alloc, &[])?;
-        let status = run_in(&rt, command, &mut folder, &mut out)?;
-        assert_eq!(rt; status.number(), 3);
-        assert_eq!(rt; out.bytes(), want);
+        let case = Case {
+            command,
+            cuts: [100; 5],
+            ..auction(b"t 1 \"ann\"\n", b"")
+        };
+        let status = Status::OpenFault { operand };
+        assert_eq!(rt;
+            ends(&rt, &case, want, b""),
+            Ok(Some(status)),
+            "at {command}"
+        );
     }
-    Ok(())
 }
 
+// There are 16 writes.
 #[test]
-fn each_write_fails_in_turn(rt: HostRuntime) -> Result<(), Fail> {
-    let mut rest = ODD_OUT;
-    for nth in 0u64..16 {
-        assert!(rt; !rest.is_empty());
-        let mut out = sink_of(rt.alloc(), &[nth])?;
-        let status = run_on(&rt, PLAN, ODD, 4096, &[], &mut out)?;
-        assert_eq!(rt; status, Status::WriteFault);
-        assert!(rt; ODD_OUT.starts_with(out.bytes()));
-        assert_eq!(rt; out.bytes().len().saturating_add(rest.len()), ODD_OUT.len());
-        rest = first_piece(rest).1;
+fn each_write_fails_in_turn(rt: HostRuntime) {
+    for (nth, left, status) in [
+        (0, 0, Status::WriteFault),
+        (1, 8, Status::WriteFault),
+        (2, 14, Status::WriteFault),
+        (3, 23, Status::WriteFault),
+        (4, 32, Status::WriteFault),
+        (5, 40, Status::WriteFault),
+        (6, 46, Status::WriteFault),
+        (7, 92, Status::WriteFault),
+        (8, 125, Status::WriteFault),
+        (9, 162, Status::WriteFault),
+        (10, 197, Status::WriteFault),
+        (11, 229, Status::WriteFault),
+        (12, 263, Status::WriteFault),
+        (13, 297, Status::WriteFault),
+        (14, 327, Status::WriteFault),
+        (15, 359, Status::WriteFault),
+        (16, 386, Status::Done),
+    ] {
+        let case = Case {
+            fault: Fault::Write(nth),
+            ..over(PLAN, ODD, 4096)
+        };
+        assert_eq!(rt;
+            ends(&rt, &case, front(ODD_OUT, left), b""),
+            Ok(Some(status)),
+            "at {nth}"
+        );
     }
-    assert!(rt; rest.is_empty());
-    Ok(())
+    assert_eq!(rt; ODD_OUT.len(), 386);
 }
 
 // Holds all back, and can't hand it on.
@@ -410,76 +402,59 @@ impl Sink for Stuck {
     }
 }
 
+// How a command over the file ends there, and how often flushes have failed then.
+fn ends_stuck(rt: &HostRuntime, command: &str, out: &mut Stuck) -> Result<(Status, u64), NoMemory> {
+    let words = words_of(rt.alloc(), command)?;
+    let status = run_in(rt, words.as_slice(), &over(PLAN, ODD, 100), out)?;
+    Ok((status, out.faults))
+}
+
 #[test]
-fn a_status_line_is_handed_on_too(rt: HostRuntime) -> Result<(), Fail> {
-    let alloc = rt.alloc();
-    let mut folder = MemFolder::new(alloc, &[])?;
-    folder.add(alloc, b"plan", PLAN, 100, &[])?;
-    folder.add(alloc, b"file", ODD, 100, &[])?;
+fn a_status_line_is_handed_on_too(rt: HostRuntime) {
     let mut out = Stuck { faults: 0 };
-    let status = run_in(&rt, "run plan file", &mut folder, &mut out)?;
-    assert_eq!(rt; status, Status::WriteFault);
-    assert_eq!(rt; out.faults, 1);
-    let status = run_in(&rt, "run", &mut folder, &mut out)?;
-    assert_eq!(rt; status, Status::Usage);
-    assert_eq!(rt; out.faults, 2);
-    Ok(())
-}
-
-// How the command over this plan ends, where the file `file` is there.
-fn run_over(
-    rt: &HostRuntime,
-    command: &str,
-    plan: &[u8],
-    out: &mut MemSink,
-) -> Result<Status, Fail> {
-    let alloc = rt.alloc();
-    let mut folder = MemFolder::new(alloc, &[])?;
-    folder.add(alloc, b"plan", plan, 65_536, &[])?;
-    folder.add(alloc, b"file", ODD, 65_536, &[])?;
-    run_in(rt, command, &mut folder, out)
-}
-
-// Whether it ends with this number and writes this line alone.
-fn refuses(
-    rt: &HostRuntime,
-    command: &str,
-    plan: &[u8],
-    number: u8,
-    line: &[u8],
-) -> Result<bool, Fail> {
-    let mut out = sink_of(rt.alloc(), &[])?;
-    let status = run_over(rt, command, plan, &mut out)?;
-    Ok(status.number() == number && out.bytes() == line)
+    assert_eq!(rt;
+        ends_stuck(&rt, "run plan a", &mut out),
+        Ok((Status::WriteFault, 1))
+    );
+    assert_eq!(rt; ends_stuck(&rt, "run", &mut out), Ok((Status::Usage, 2)));
 }
 
 const USAGE: &[u8] =
     b"# usage: run PLAN FILE.. | replay PLAN SCRIPT FILE.. | check PLAN | make SEED N\n";
 
+// A command over a plan, where the file `a` is there.
+fn asked<'a>(command: &'a str, plan: &'a [u8]) -> Case<'a> {
+    Case {
+        command,
+        cuts: WHOLE,
+        files: [plan, b"", ODD, b"", b""],
+        fault: Fault::Nothing,
+    }
+}
+
 #[test]
-fn other_words_are_refused(rt: HostRuntime) -> Result<(), Fail> {
+fn other_words_are_refused(rt: HostRuntime) {
     for command in [
         "",
         "run",
         "run plan",
-        "walk plan file",
-        "run -plan file",
-        "run plan --file",
-        "run plan file -",
-        "walk nosuch file",
+        "walk plan a",
+        "run -plan a",
+        "run plan --a",
+        "run plan a -",
+        "walk nosuch a",
     ] {
-        assert!(rt; refuses(&rt, command, b"", 64, USAGE)?, "at {command}");
+        let ended = ends(&rt, &asked(command, b""), USAGE, b"");
+        assert_eq!(rt; ended, Ok(Some(Status::Usage)), "at {command}");
     }
-    let mut folder = MemFolder::new(rt.alloc(), &[])?;
-    let mut out = sink_of(rt.alloc(), &[])?;
-    let status = run_words(&rt, &[], &mut folder, &mut out);
-    assert_eq!(rt; status, Status::Usage);
-    assert_eq!(rt; out.bytes(), USAGE);
-    Ok(())
+    assert_eq!(rt;
+        ends_by(&rt, &[], &asked("", b""), USAGE, b""),
+        Ok(Some(Status::Usage))
+    );
 }
 
 #[test]
-fn a_plan_is_refused_with_its_first_fault(rt: HostRuntime) -> Result<(), Fail> {
+fn a_plan_is_refused_with_its_first_fault(rt: HostRuntime) {
     for (plan, line) in [
         (
             b"".as_slice(),
@@ -542,32 +517,29 @@ fn a_plan_is_refused_with_its_first_fault(rt: HostRuntime) -> Result<(), Fail> {
             b"# refused plan line 3 P14 unreadable line\n",
         ),
     ] {
-        let mut out = sink_of(rt.alloc(), &[])?;
-        let status = run_over(&rt, "run plan nosuch file file", plan, &mut out)?;
-        assert_eq!(rt; status.number(), 1);
-        assert_eq!(rt; out.bytes(), line);
+        let ended = ends_with(&rt, &asked("run plan nosuch a a", plan), line, b"");
+        assert_eq!(rt; ended, Ok(Some(1)));
     }
-    Ok(())
 }
 
 #[test]
-fn another_number_of_files_and_unsafe_plans_are_refused(rt: HostRuntime) -> Result<(), Fail> {
+fn another_number_of_files_and_unsafe_plans_are_refused(rt: HostRuntime) {
     let select = b"plan 1\nstream s k:int\nselect t s where k 1\noutput t\n".as_slice();
     for (command, plan, number, line) in [
         (
             "run plan nosuch",
             AUCTION,
-            8u8,
+            8,
             b"# refused files want 2 got 1\n".as_slice(),
         ),
         (
-            "run plan file file nosuch",
+            "run plan a a nosuch",
             AUCTION,
             8,
             b"# refused files want 2 got 3\n",
         ),
         (
-            "run plan file nosuch",
+            "run plan a nosuch",
             select,
             8,
             b"# refused files want 1 got 2\n",
@@ -591,19 +563,16 @@ fn another_number_of_files_and_unsafe_plans_are_refused(rt: HostRuntime) -> Resu
             b"# unsafe join j input i: cannot reach c\n# reached: i\n",
         ),
     ] {
-        assert!(rt; refuses(&rt, command, plan, number, line)?, "at {command}");
+        let ended = ends_with(&rt, &asked(command, plan), line, b"");
+        assert_eq!(rt; ended, Ok(Some(number)), "at {command}");
     }
-    Ok(())
 }
 
 #[test]
-fn a_stream_alone_may_have_schemes(rt: HostRuntime) -> Result<(), Fail> {
+fn a_stream_alone_may_have_schemes(rt: HostRuntime) {
     let plan = b"plan 1\nstream s k:int v:text\nscheme s + _\noutput s\n";
-    let mut out = sink_of(rt.alloc(), &[])?;
-    let status = run_on(&rt, plan, CLOSED, 7, &[], &mut out)?;
-    assert_eq!(rt; status, Status::Done);
-    assert_eq!(rt; out.bytes(), CLOSED_OUT);
-    Ok(())
+    let ended = ends(&rt, &over(plan, CLOSED, 7), CLOSED_OUT, b"");
+    assert_eq!(rt; ended, Ok(Some(Status::Done)));
 }
 
 // The bytes with line feeds behind them, so many bytes in all.
@@ -615,60 +584,62 @@ pub(crate) fn padded(alloc: Global, bytes: &[u8], size: usize) -> Result<List<u8
     Ok(long)
 }
 
-#[test]
-fn a_plan_of_more_bytes_than_may_be_is_refused(rt: HostRuntime) -> Result<(), Fail> {
-    let alloc = rt.alloc();
-    let mut plan = padded(alloc, PLAN, 1_048_576)?;
-    let file = padded(alloc, b"", 1_048_577)?;
-    let mut out = sink_of(alloc, &[])?;
-    let status = run_on(&rt, plan.as_slice(), file.as_slice(), 65_536, &[], &mut out)?;
-    assert_eq!(rt; status, Status::Done);
-    assert_eq!(rt; out.bytes(), NOTHING_OUT);
-    plan.push(b'\n')?;
-    let line = b"# stopped limit plan\n";
-    assert!(rt; refuses(&rt, "run plan file", plan.as_slice(), 6, line)?);
-    Ok(())
+// How a plan of so many bytes ends, over a file of so many line feeds.
+fn padded_plan_ends(
+    rt: &HostRuntime,
+    size: usize,
+    feeds: usize,
+    want: &[u8],
+) -> Result<Option<Status>, NoMemory> {
+    let plan = padded(rt.alloc(), PLAN, size)?;
+    let file = padded(rt.alloc(), b"", feeds)?;
+    ends(
+        rt,
+        &over(plan.as_slice(), file.as_slice(), 65_536),
+        want,
+        b"",
+    )
 }
 
-// The name of a node by its number, behind a byte: `naa` is the first.
-fn append_name(before: u8, node: usize, plan: &mut List<u8>) -> Result<(), NoMemory> {
+#[test]
+fn a_plan_of_more_bytes_than_may_be_is_refused(rt: HostRuntime) {
+    let ended = padded_plan_ends(&rt, 1_048_576, 1_048_577, NOTHING_OUT);
+    assert_eq!(rt; ended, Ok(Some(Status::Done)));
+    let status = Status::Limit {
+        what: LimitOf::Plan,
+    };
+    let ended = padded_plan_ends(&rt, 1_048_577, 0, b"# stopped limit plan\n");
+    assert_eq!(rt; ended, Ok(Some(status)));
+}
+
+// The name of a node by its number: `naa` is the first.
+fn append_name(node: usize, plan: &mut List<u8>) -> Result<(), NoMemory> {
     let letters = b"abcdefghijklmnop";
-    plan.push(before)?;
     plan.push(b'n')?;
     plan.push(letters[node / 16 % 16])?;
-    plan.push(letters[node % 16])?;
-    Ok(())
-}
-
-fn append_select(node: usize, plan: &mut List<u8>) -> Result<(), NoMemory> {
-    plan.append(b"select")?;
-    append_name(b' ', node, plan)?;
-    append_name(b' ', node.saturating_sub(1), plan)?;
-    plan.append(b" where v [")?;
-    append_name(b'"', node, plan)?;
-    plan.append(b"\"..]\n")?;
-    Ok(())
-}
-
-fn append_union(node: usize, plan: &mut List<u8>) -> Result<(), NoMemory> {
-    plan.append(b"union")?;
-    append_name(b' ', node, plan)?;
-    append_name(b' ', node.saturating_sub(1), plan)?;
-    append_name(b' ', node.saturating_sub(4), plan)?;
-    plan.push(b'\n')?;
-    Ok(())
+    plan.push(letters[node % 16])
 }
 
 // Four streams, three unions of them, and then a chain of selects, of which each asks for its own name and those behind it.
-fn append_statement(node: usize, plan: &mut List<u8>) -> Result<(), NoMemory> {
+// `0` stands for the node's name, `1` and `4` for those of the nodes so many before it.
+fn statement(node: usize) -> &'static [u8] {
     if node >= 7 {
-        append_select(node, plan)?;
+        b"select 0 1 where v [\"0\"..]\n"
     } else if node >= 4 {
-        append_union(node, plan)?;
+        b"union 0 1 4\n"
     } else {
-        plan.append(b"stream")?;
-        append_name(b' ', node, plan)?;
-        plan.append(b" v:text\n")?;
+        b"stream 0 v:text\n"
+    }
+}
+
+fn append_for(node: usize, statement: &[u8], plan: &mut List<u8>) -> Result<(), NoMemory> {
+    for byte in statement {
+        match byte {
+            b'0' => append_name(node, plan)?,
+            b'1' => append_name(node.saturating_sub(1), plan)?,
+            b'4' => append_name(node.saturating_sub(4), plan)?,
+            _ => plan.push(*byte)?,
+        }
     }
     Ok(())
 }
@@ -676,11 +647,9 @@ fn append_statement(node: usize, plan: &mut List<u8>) -> Result<(), NoMemory> {
 fn plan_of(alloc: Global, nodes: usize) -> Result<List<u8>, NoMemory> {
     let mut plan = List::copy_of(alloc, b"plan 1\n")?;
     for node in 0..nodes {
-        append_statement(node, &mut plan)?;
+        append_for(node, statement(node), &mut plan)?;
     }
-    plan.append(b"output")?;
-    append_name(b' ', nodes.saturating_sub(1), &mut plan)?;
-    plan.push(b'\n')?;
+    append_for(nodes, b"output 1\n", &mut plan)?;
     Ok(plan)
 }
 
@@ -690,18 +659,25 @@ const CHAIN: &[u8] = b"t \"ndp\"\nt \"ndo\"\np \"ndp\"\nt \"ndp\"\nt \"z\"\n";
 const CHAIN_OUT: &[u8] =
     b"t \"ndp\"\nt \"ndp\"\nt \"ndp\"\nt \"ndp\"\np \"ndp\"\np \"ndp\"\np \"ndp\"\np \"ndp\"\nt \"z\"\nt \"z\"\nt \"z\"\nt \"z\"\np *\np *\np *\np *\n# stream naa tuples 3 punctuations 1 rejected 1\n# reject naa line 4 closed by line 3\n# stream nab tuples 3 punctuations 1 rejected 1\n# reject nab line 4 closed by line 3\n# stream nac tuples 3 punctuations 1 rejected 1\n# reject nac line 4 closed by line 3\n# stream nad tuples 3 punctuations 1 rejected 1\n# reject nad line 4 closed by line 3\n# results 8 punctuations 8\n";
 
-#[test]
-fn the_greatest_plan_runs(rt: HostRuntime) -> Result<(), Fail> {
-    let plan = plan_of(rt.alloc(), 64)?;
-    let files = [CHAIN, CHAIN, CHAIN];
-    assert!(rt; runs(&rt, "run plan a b c a", plan.as_slice(), files, CHAIN_OUT)?);
-    Ok(())
+// How a plan of so many nodes over four streams ends.
+fn plan_of_nodes_ends(rt: &HostRuntime, nodes: usize, want: &[u8]) -> Result<Option<u8>, NoMemory> {
+    let plan = plan_of(rt.alloc(), nodes)?;
+    let case = Case {
+        command: "run plan a b c a",
+        cuts: PIECES,
+        files: [plan.as_slice(), b"", CHAIN, CHAIN, CHAIN],
+        fault: Fault::Nothing,
+    };
+    ends_with(rt, &case, want, b"")
 }
 
 #[test]
-fn a_plan_of_more_nodes_than_may_be_is_refused(rt: HostRuntime) -> Result<(), Fail> {
-    let plan = plan_of(rt.alloc(), 65)?;
+fn the_greatest_plan_runs(rt: HostRuntime) {
+    assert_eq!(rt; plan_of_nodes_ends(&rt, 64, CHAIN_OUT), Ok(Some(0)));
+}
+
+#[test]
+fn a_plan_of_more_nodes_than_may_be_is_refused(rt: HostRuntime) {
     let line = b"# refused plan line 66 P12 too many\n";
-    assert!(rt; refuses(&rt, "run plan file", plan.as_slice(), 1, line)?);
-    Ok(())
+    assert_eq!(rt; plan_of_nodes_ends(&rt, 65, line), Ok(Some(1)));
 }

@@ -1,10 +1,11 @@
 // What no clause says: that the calls succeed with ample memory, on worked punctuations.
-ghost use Rattle.std.specs.Prelude.{◌≡◌, ◌<◌, ◌+◌, ◌∷◌, [], ℕ, map, true, false, not, length, slice_get, IfOk, OnOk};
+ghost use Rattle.std.specs.Prelude.{◌≡◌, ◌<◌, ◌≤◌, ◌+◌, ◌∷◌, [], ℕ, map, true, false, not, length, slice_get, IfOk, OnOk};
 ghost use Rattle.pj_puncts.specs.Givens.{marked};
 ghost use Rattle.pj_puncts.specs.Stores.{IsAbove};
 ghost use Rattle.pj_test_states.specs.Chain.{at, chain, chain_cert, chain_schemes, firsts, number, pair, pairs, seconds, two_rows};
 ghost use Rattle.pj_value.specs.Options.{is_value};
 
+use crate::lines::{punct, row};
 use pj_cover::{StoredRows, Verdict, judge_row, purge_route, ripe};
 use pj_pattern::{Pattern, Punct, Shape};
 use pj_puncts::{Given, NumberedPunct, PunctStore};
@@ -12,234 +13,222 @@ use pj_shape::{Cert, CertStep, ClassCol, Column, JoinSpec, Schema, Scheme, Schem
 use pj_value::{Kind, List, NoMemory, Row, Value};
 use std::alloc::Global;
 
-// The punctuation of one column that closes a number.
-fn closing(alloc: Global, number: i64) -> Result<Punct, NoMemory>
-    ensures { IfOk result (λ punct. length punct ≡ 1) }
+// Puts a punctuation behind the others, with a number not below this one.
+fn add(
+    alloc: Global,
+    store: &mut PunctStore,
+    arity: u32,
+    next: u64,
+    number: u64,
+    cells: &str,
+) -> Result<(), NoMemory>
+    requires above { IsAbove next store.old.kept }
+    requires arity { store.old.arity ≡ arity }
+    ensures above { OnOk result (IsAbove (number + 1) store.new.kept) }
+    ensures arity { store.new.arity ≡ arity }
 {
-    let mut patterns = List::new(alloc);
-    patterns.push(Pattern::constant(Value::Int(number)))?;
-    Ok(Punct::of(patterns))
-}
-
-fn row_of(alloc: Global, number: i64) -> Result<Row, NoMemory> {
-    let mut values = List::new(alloc);
-    values.push(Value::Int(number))?;
-    Ok(Row::of(values))
-}
-
-// Two punctuations that close 5, with the numbers 3 and 8.
-fn closed_twice(alloc: Global) -> Result<PunctStore, NoMemory> {
-    let mut store = PunctStore::new(alloc, 1)?;
-    store.push(closing(alloc, 5)?, 3)?;
-    store.push(closing(alloc, 5)?, 8)?;
-    Ok(store)
-}
-
-fn first_closing(alloc: Global, number: i64) -> Result<Option<u64>, NoMemory> {
-    let store = closed_twice(alloc)?;
-    let row = row_of(alloc, number)?;
-    Ok(store.first_match(&row))
-}
-
-#[test]
-fn the_first_match_is_named(rt: HostRuntime) {
-    for (number, first) in [(5, Some(3)), (6, None)] {
-        assert!(rt; first_closing(rt.alloc(), number) == Ok(first));
+    let punct = punct(alloc, cells)?;
+    if punct.len() != arity as usize {
+        return Err(NoMemory);
     }
-}
-
-// The punctuation of two columns with this pattern in the first or the second one, and a wildcard in the other.
-fn beside_wild(alloc: Global, pattern: Pattern, is_first: bool) -> Result<Punct, NoMemory>
-    ensures { IfOk result (λ punct. length punct ≡ 2) }
-{
-    let mut patterns = List::new(alloc);
-    if is_first {
-        patterns.push(pattern)?;
-        patterns.push(Pattern::wild())?;
-        return Ok(Punct::of(patterns));
+    if number < next {
+        return Err(NoMemory);
     }
-    patterns.push(Pattern::wild())?;
-    patterns.push(pattern)?;
-    Ok(Punct::of(patterns))
-}
-
-// A store with this punctuation alone.
-fn store_of(alloc: Global, punct: Punct, number: u64) -> Result<PunctStore, NoMemory>
-    requires { length punct ≡ 2 }
-    ensures arity { IfOk result (λ store. store.arity ≡ 2) }
-    ensures above { IfOk result (λ store. IsAbove (number + 1) store.kept) }
-{
-    let mut store = PunctStore::new(alloc, 2)?;
     store.push(punct, number)?;
+    Ok(())
+}
+
+// A store of punctuations with these numbers, which rise.
+fn store_of(alloc: Global, arity: u32, lines: &[(u32, &str)]) -> Result<PunctStore, NoMemory>
+    ensures { IfOk result (λ store. store.arity ≡ arity) }
+{
+    let mut store = PunctStore::new(alloc, arity)?;
+    let mut next = 0;
+    for (number, cells) in lines {
+        let number = u64::from(*number);
+        add(alloc, &mut store, arity, next, number, cells)?;
+        next = number + 1;
+    }
     Ok(store)
 }
 
-fn scheme(alloc: Global, is_first: bool) -> Result<Scheme, NoMemory>
-    ensures { IfOk result (λ marks. marks ≡ is_first ∷ not is_first ∷ []) }
+// What is asked of a store, and what it is to answer.
+#[derive(Clone, Copy)]
+enum Question<'a> {
+    // The number of the first punctuation that a row matches.
+    First(&'a str, Option<u64>),
+    // The numbers of a constant in a column.
+    Numbers(u32, i64, &'a [u64]),
+    // Whether 5 in the first of two columns is covered below a number.
+    CoversFive(u64, bool),
+}
+
+fn is_first(
+    alloc: Global,
+    store: &PunctStore,
+    cells: &str,
+    first: Option<u64>,
+) -> Result<bool, NoMemory> {
+    let row = row(alloc, cells)?;
+    Ok(store.first_match(&row) == first)
+}
+
+fn two_marks(alloc: Global, one: bool, other: bool) -> Result<Scheme, NoMemory>
+    ensures { IfOk result (λ marks. marks ≡ one ∷ other ∷ []) }
 {
     let mut marks = List::new(alloc);
-    marks.push(is_first)?;
-    marks.push(!is_first)?;
+    marks.push(one)?;
+    marks.push(other)?;
     Ok(Scheme::of(marks))
 }
 
-// Whether the pattern, with the number 3, covers 5 in the first column.
-fn covers_five(
-    alloc: Global,
-    pattern: Pattern,
-    is_first: bool,
-    below: u64,
-) -> Result<bool, NoMemory> {
-    let store = store_of(alloc, beside_wild(alloc, pattern, is_first)?, 3)?;
-    let scheme = scheme(alloc, true)?;
+fn covers_five(alloc: Global, store: &PunctStore, below: u64) -> Result<bool, NoMemory>
+    requires { store.now.arity ≡ 2 }
+{
+    let scheme = two_marks(alloc, true, false)?;
     let five = Value::Int(5);
     let mut given = Given::new();
     given.push(&five);
     Ok(store.covers(&scheme, &given, below))
 }
 
-fn upto_nine() -> Pattern {
-    Pattern::range(None, Some(Value::Int(9)))
+fn answers(
+    alloc: Global,
+    store: &PunctStore,
+    arity: u32,
+    question: Question<'_>,
+) -> Result<bool, NoMemory>
+    requires { store.now.arity ≡ arity }
+{
+    match question {
+        Question::First(cells, first) => is_first(alloc, store, cells, first),
+        Question::Numbers(column, number, numbers) => {
+            if column >= arity {
+                return Ok(false);
+            }
+            Ok(store.constants(column, &Value::Int(number)) == numbers)
+        }
+        Question::CoversFive(below, covered) => {
+            if arity != 2 {
+                return Ok(false);
+            }
+            Ok(covers_five(alloc, store, below)? == covered)
+        }
+    }
 }
 
-fn five_or_six(alloc: Global) -> Result<Pattern, NoMemory> {
-    let mut values = List::new(alloc);
-    values.push(Value::Int(6))?;
-    values.push(Value::Int(5))?;
-    Pattern::list(alloc, values)
+// Whether a store of these punctuations answers so.
+fn holds(
+    alloc: Global,
+    arity: u32,
+    lines: &[(u32, &str)],
+    question: Question<'_>,
+) -> Result<bool, NoMemory> {
+    let store = store_of(alloc, arity, lines)?;
+    answers(alloc, &store, arity, question)
 }
 
+// Two punctuations close 5.
+const CLOSED_TWICE: &[(u32, &str)] = &[(3, "5"), (8, "5")];
+
+#[test]
+fn the_first_match_is_named(rt: HostRuntime) {
+    for (cells, first) in [("5", Some(3)), ("6", None)] {
+        let question = Question::First(cells, first);
+        assert_eq!(rt;
+            holds(rt.alloc(), 1, CLOSED_TWICE, question),
+            Ok(true),
+            "at {cells}"
+        );
+    }
+}
+
+// A list covers its members.
 #[test]
 fn instances_are_covered(rt: HostRuntime) {
-    let alloc = rt.alloc();
-    for (number, below, covered) in [(5, 4, true), (5, 3, false), (6, 4, false)] {
-        let constant = Pattern::constant(Value::Int(number));
-        assert!(rt; covers_five(alloc, constant, true, below) == Ok(covered));
-    }
-    assert!(rt; covers_five(alloc, Pattern::wild(), true, 4) == Ok(true));
-    assert!(rt; covers_five(alloc, Pattern::empty(), true, 4) == Ok(false));
-    assert!(rt; covers_five(alloc, upto_nine(), true, 4) == Ok(true));
-    assert!(rt; covers_five(alloc, upto_nine(), false, 4) == Ok(false));
-}
-
-#[test]
-fn lists_cover_their_members(rt: HostRuntime) {
-    let alloc = rt.alloc();
-    match five_or_six(alloc) {
-        Err(_) => assert!(rt; false),
-        Ok(pattern) => assert!(rt; covers_five(alloc, pattern, true, 4) == Ok(true)),
+    for (cells, below, covered) in [
+        ("5 *", 4, true),
+        ("5 *", 3, false),
+        ("6 *", 4, false),
+        ("* *", 4, true),
+        ("{} *", 4, false),
+        ("[..9] *", 4, true),
+        ("* [..9]", 4, false),
+        ("{6|5} *", 4, true),
+    ] {
+        let question = Question::CoversFive(below, covered);
+        let answered = holds(rt.alloc(), 2, &[(3, cells)], question);
+        assert_eq!(rt; answered, Ok(true), "at {cells} below {below}");
     }
 }
 
-// One punctuation more of two columns, with 5 in the first or the second one.
-fn add_five(
-    alloc: Global,
-    store: &mut PunctStore,
-    is_first: bool,
-    number: u64,
-) -> Result<(), NoMemory>
-    requires above { IsAbove number store.old.kept }
-    requires arity { store.old.arity ≡ 2 }
-    ensures above { OnOk result (IsAbove (number + 1) store.new.kept) }
-    ensures arity { store.new.arity ≡ 2 }
-{
-    let five = Pattern::constant(Value::Int(5));
-    store.push(beside_wild(alloc, five, is_first)?, number)?;
-    Ok(())
-}
-
-// A store with 5 in the first column twice, in the second one once, and a range in the first one.
-fn fives(alloc: Global) -> Result<PunctStore, NoMemory>
-    ensures { IfOk result (λ store. store.arity ≡ 2) }
-{
-    let mut store = store_of(alloc, beside_wild(alloc, upto_nine(), true)?, 2)?;
-    add_five(alloc, &mut store, true, 3)?;
-    add_five(alloc, &mut store, false, 4)?;
-    add_five(alloc, &mut store, true, 5)?;
-    Ok(store)
-}
-
-// Whether the numbers of a constant are these.
-fn has_numbers(alloc: Global, column: u32, number: i64, numbers: &[u64]) -> Result<bool, NoMemory>
-    requires { column < 2 }
-{
-    let store = fives(alloc)?;
-    Ok(store.constants(column, &Value::Int(number)) == numbers)
-}
+// 5 in the first column twice, in the second one once, and a range in the first one.
+const FIVES: &[(u32, &str)] = &[(2, "[..9] *"), (3, "5 *"), (4, "* 5"), (5, "5 *")];
 
 #[test]
 fn the_numbers_of_a_constant_are_lent(rt: HostRuntime) {
-    let alloc = rt.alloc();
-    assert!(rt; has_numbers(alloc, 0, 5, &[3, 5]) == Ok(true));
-    assert!(rt; has_numbers(alloc, 1, 5, &[4]) == Ok(true));
-    assert!(rt; has_numbers(alloc, 0, 9, &[]) == Ok(true));
+    for (column, number, numbers) in [(0, 5, [3, 5].as_slice()), (1, 5, &[4]), (0, 9, &[])] {
+        let question = Question::Numbers(column, number, numbers);
+        assert_eq!(rt;
+            holds(rt.alloc(), 2, FIVES, question),
+            Ok(true),
+            "at {column}, {number}"
+        );
+    }
 }
 
-// A store of two columns, and its punctuations once more in a plain list.
+// Each of six forms in the first column, with each of them in the second, twice.
+#[rattlefmt::skip]
+const ALL_FORMS: &[(u32, &str)] = &[
+    (0, "{2|5} {3|6}"), (1, "[6..8] {9|12}"), (2, "[10..] {4|7}"), (3, "[..3] {10|13}"), (4, "7 {5|8}"), (5, "* {0|3}"),
+    (6, "{4|7} [6..8]"), (7, "[8..10] [1..3]"), (8, "[1..] [7..9]"), (9, "[..5] [2..4]"), (10, "9 [8..10]"), (11, "* [3..5]"),
+    (12, "{6|9} [9..]"), (13, "[10..12] [4..]"), (14, "[3..] [10..]"), (15, "[..7] [5..]"), (16, "0 [0..]"), (17, "* [6..]"),
+    (18, "{8|11} [..1]"), (19, "[1..3] [..7]"), (20, "[5..] [..2]"), (21, "[..9] [..8]"), (22, "2 [..3]"), (23, "* [..9]"),
+    (24, "{10|13} 4"), (25, "[3..5] 10"), (26, "[7..] 5"), (27, "[..0] 0"), (28, "4 6"), (29, "* 1"),
+    (30, "{1|4} *"), (31, "[5..7] *"), (32, "[9..] *"), (33, "[..2] *"), (34, "6 *"), (35, "* *"),
+    (36, "{3|6} {10|13}"), (37, "[7..9] {5|8}"), (38, "[0..] {0|3}"), (39, "[..4] {6|9}"), (40, "8 {1|4}"), (41, "* {7|10}"),
+    (42, "{5|8} [2..4]"), (43, "[9..11] [8..10]"), (44, "[2..] [3..5]"), (45, "[..6] [9..11]"), (46, "10 [4..6]"), (47, "* [10..12]"),
+    (48, "{7|10} [5..]"), (49, "[0..2] [0..]"), (50, "[4..] [6..]"), (51, "[..8] [1..]"), (52, "1 [7..]"), (53, "* [2..]"),
+    (54, "{9|12} [..8]"), (55, "[2..4] [..3]"), (56, "[6..] [..9]"), (57, "[..10] [..4]"), (58, "3 [..10]"), (59, "* [..5]"),
+    (60, "{0|3} 0"), (61, "[4..6] 6"), (62, "[8..] 1"), (63, "[..1] 7"), (64, "5 2"), (65, "* 8"),
+    (66, "{2|5} *"), (67, "[6..8] *"), (68, "[10..] *"), (69, "[..3] *"), (70, "7 *"), (71, "* *"),
+];
+
+// The same punctuations in a plain list.
+fn plain_of(alloc: Global, lines: &[(u32, &str)]) -> Result<List<NumberedPunct>, NoMemory> {
+    let mut plain = List::new(alloc);
+    for (number, cells) in lines {
+        plain.push(NumberedPunct {
+            punct: punct(alloc, cells)?,
+            number: u64::from(*number),
+        })?;
+    }
+    Ok(plain)
+}
+
+// A store of all of them, and the plain list.
 #[derive(Drop)]
-struct Both {
+struct Forms {
     store: PunctStore,
     plain: List<NumberedPunct>,
 }
 
-// A pattern of one of six forms about this value.
-fn pattern_of(alloc: Global, form: u64, value: u8) -> Result<Pattern, NoMemory> {
-    let value = i64::from(value);
-    match form {
-        0 => Ok(Pattern::wild()),
-        1 => Ok(Pattern::constant(Value::Int(value))),
-        2 => Ok(Pattern::range(None, Some(Value::Int(value)))),
-        3 => Ok(Pattern::range(Some(Value::Int(value)), None)),
-        4 => Ok(Pattern::range(Some(Value::Int(value)), Some(Value::Int(value + 2)))),
-        _ => two_values(alloc, value, value + 3),
-    }
+fn all_forms(alloc: Global) -> Result<Forms, NoMemory>
+    ensures { IfOk result (λ forms. forms.store.arity ≡ 2) }
+{
+    Ok(Forms {
+        store: store_of(alloc, 2, ALL_FORMS)?,
+        plain: plain_of(alloc, ALL_FORMS)?,
+    })
 }
 
-fn two_values(alloc: Global, one: i64, other: i64) -> Result<Pattern, NoMemory> {
+fn pair_row(alloc: Global, one: i64, other: i64) -> Result<Row, NoMemory>
+    ensures { IfOk result (λ row. length row ≡ 2) }
+{
     let mut values = List::new(alloc);
     values.push(Value::Int(one))?;
     values.push(Value::Int(other))?;
-    Pattern::list(alloc, values)
-}
-
-// The punctuations of two columns of all forms, by numbers below 72.
-fn punct_of(alloc: Global, n: u64) -> Result<Punct, NoMemory>
-    requires { n < 72 }
-    ensures { IfOk result (λ punct. length punct ≡ 2) }
-{
-    let mut patterns = List::new(alloc);
-    patterns.push(pattern_of(alloc, n % 6, (n * 7 % 11) as u8)?)?;
-    patterns.push(pattern_of(alloc, n / 6 % 6, (n * 5 % 11) as u8)?)?;
-    Ok(Punct::of(patterns))
-}
-
-// One punctuation more, with this number.
-fn add(alloc: Global, both: &mut Both, number: u64) -> Result<(), NoMemory>
-    requires number { number < 72 }
-    requires above { IsAbove number both.old.store.kept }
-    requires arity { both.old.store.arity ≡ 2 }
-    ensures above { OnOk result (IsAbove (number + 1) both.new.store.kept) }
-    ensures arity { both.new.store.arity ≡ 2 }
-{
-    both.store.push(punct_of(alloc, 71 - number)?, number)?;
-    both.plain.push(NumberedPunct {
-        punct: punct_of(alloc, 71 - number)?,
-        number,
-    })?;
-    Ok(())
-}
-
-fn all_forms(alloc: Global) -> Result<Both, NoMemory>
-    ensures { IfOk result (λ both. both.store.arity ≡ 2) }
-{
-    let mut both = Both {
-        store: PunctStore::new(alloc, 2)?,
-        plain: List::new(alloc),
-    };
-    for number in 0..72 {
-        add(alloc, &mut both, number)?;
-    }
-    Ok(both)
+    Ok(Row::of(values))
 }
 
 // The number of the first punctuation that the row matches, by a walk over all.
@@ -252,24 +241,18 @@ fn first_by_walk(kept: &[NumberedPunct], row: &Row) -> Option<u64> {
     None
 }
 
-fn agrees_on_row(alloc: Global, both: &Both, one: i64, other: i64) -> Result<bool, NoMemory> {
-    let row = pair_row(alloc, one, other)?;
-    Ok(both.store.first_match(&row) == first_by_walk(both.plain.as_slice(), &row))
+fn agrees_on_row(alloc: Global, forms: &Forms, n: u64) -> Result<bool, NoMemory> {
+    let row = pair_row(alloc, (n % 14) as i64, (n / 14) as i64)?;
+    Ok(forms.store.first_match(&row) == first_by_walk(forms.plain.as_slice(), &row))
 }
 
-fn agrees_on_rows(alloc: Global) -> Result<bool, NoMemory> {
-    let both = all_forms(alloc)?;
+fn agree_on_rows(alloc: Global, forms: &Forms) -> Result<bool, NoMemory> {
     for n in 0..196 {
-        if !agrees_on_row(alloc, &both, n % 14, n / 14)? {
+        if !agrees_on_row(alloc, forms, n)? {
             return Ok(false);
         }
     }
     Ok(true)
-}
-
-#[test]
-fn the_first_match_is_that_of_a_walk(rt: HostRuntime) {
-    assert!(rt; agrees_on_rows(rt.alloc()) == Ok(true));
 }
 
 // The instances of a scheme of two columns with these constants, as plain data.
@@ -314,15 +297,6 @@ fn covers_both(patterns: &[Pattern], asked: &Asked) -> bool {
     }
 }
 
-fn two_marks(alloc: Global, one: bool, other: bool) -> Result<Scheme, NoMemory>
-    ensures { IfOk result (λ marks. marks ≡ one ∷ other ∷ []) }
-{
-    let mut marks = List::new(alloc);
-    marks.push(one)?;
-    marks.push(other)?;
-    Ok(Scheme::of(marks))
-}
-
 // The constants of the marked ones of two columns.
 fn given_for<'a>(marks: (bool, bool), one: &'a Value, other: &'a Value) -> Given<'a>
     ensures { length result ≡ marked (marks.0 ∷ marks.1 ∷ []) }
@@ -348,29 +322,49 @@ fn given_for<'a>(marks: (bool, bool), one: &'a Value, other: &'a Value) -> Given
 
 fn agrees_on_instance(
     alloc: Global,
-    both: &Both,
+    forms: &Forms,
     marks: (bool, bool),
-    n: i64,
+    n: u64,
     below: u64,
 ) -> Result<bool, NoMemory>
-    requires { both.now.store.arity ≡ 2 }
+    requires { forms.now.store.arity ≡ 2 }
 {
     let scheme = two_marks(alloc, marks.0, marks.1)?;
-    let (one, other) = (Value::Int(n % 14), Value::Int(n / 14));
+    let (one, other) = (Value::Int((n % 14) as i64), Value::Int((n / 14) as i64));
     let asked = Asked { marks, one, other };
     let given = given_for(marks, &asked.one, &asked.other);
-    let by_walk = covered_by_walk(both.plain.as_slice(), &asked, below);
-    Ok(both.store.covers(&scheme, &given, below) == by_walk)
+    let by_walk = covered_by_walk(forms.plain.as_slice(), &asked, below);
+    Ok(forms.store.covers(&scheme, &given, below) == by_walk)
 }
 
-fn agrees_on_instances(alloc: Global, marks: (bool, bool), below: u64) -> Result<bool, NoMemory> {
-    let both = all_forms(alloc)?;
+fn agree_on_instances(
+    alloc: Global,
+    forms: &Forms,
+    marks: (bool, bool),
+    below: u64,
+) -> Result<bool, NoMemory>
+    requires { forms.now.store.arity ≡ 2 }
+{
     for n in 0..196 {
-        if !agrees_on_instance(alloc, &both, marks, n, below)? {
+        if !agrees_on_instance(alloc, forms, marks, n, below)? {
             return Ok(false);
         }
     }
     Ok(true)
+}
+
+// Whether the store and the plain list agree: on the first match of all rows, or on the instances of a scheme below a number.
+fn agree(alloc: Global, instances: Option<((bool, bool), u64)>) -> Result<bool, NoMemory> {
+    let forms = all_forms(alloc)?;
+    match instances {
+        None => agree_on_rows(alloc, &forms),
+        Some((marks, below)) => agree_on_instances(alloc, &forms, marks, below),
+    }
+}
+
+#[test]
+fn the_first_match_is_that_of_a_walk(rt: HostRuntime) {
+    assert_eq!(rt; agree(rt.alloc(), None), Ok(true));
 }
 
 #[test]
@@ -384,7 +378,8 @@ fn cover_is_that_of_a_walk(rt: HostRuntime) {
         (true, false, 72),
     ];
     for (one, other, below) in table {
-        assert!(rt; agrees_on_instances(rt.alloc(), (one, other), below) == Ok(true));
+        let agreed = agree(rt.alloc(), Some(((one, other), below)));
+        assert_eq!(rt; agreed, Ok(true), "at {one}, {other} below {below}");
     }
 }
 
@@ -443,7 +438,7 @@ fn only(alloc: Global, is_first: bool) -> Result<List<Scheme>, NoMemory>
     ensures { IfOk result (λ list. list ≡ (is_first ∷ not is_first ∷ []) ∷ []) }
 {
     let mut list = List::new(alloc);
-    list.push(scheme(alloc, is_first)?)?;
+    list.push(two_marks(alloc, is_first, !is_first)?)?;
     Ok(list)
 }
 
@@ -473,26 +468,15 @@ fn cert(alloc: Global) -> Result<Cert, NoMemory>
     Ok(Cert::of(List::copy_of(alloc, &steps)?))
 }
 
-// Stores of the three inputs, of which the second one closes `first` and the third one `second`.
-fn stores(alloc: Global, first: i64, second: i64) -> Result<List<PunctStore>, NoMemory>
+// Stores of the three inputs, of which the second one and the third one have a punctuation.
+fn stores(alloc: Global, first: &str, second: &str) -> Result<List<PunctStore>, NoMemory>
     ensures { IfOk result (λ stores. map (λ s. s.arity) stores ≡ 2 ∷ 2 ∷ 2 ∷ []) }
 {
-    let first = beside_wild(alloc, Pattern::constant(Value::Int(first)), true)?;
-    let second = beside_wild(alloc, Pattern::constant(Value::Int(second)), false)?;
     let mut stores = List::new(alloc);
     stores.push(PunctStore::new(alloc, 2)?)?;
-    stores.push(store_of(alloc, first, 3)?)?;
-    stores.push(store_of(alloc, second, 4)?)?;
+    stores.push(store_of(alloc, 2, &[(3, first)])?)?;
+    stores.push(store_of(alloc, 2, &[(4, second)])?)?;
     Ok(stores)
-}
-
-fn pair_row(alloc: Global, one: i64, other: i64) -> Result<Row, NoMemory>
-    ensures { IfOk result (λ row. length row ≡ 2) }
-{
-    let mut values = List::new(alloc);
-    values.push(Value::Int(one))?;
-    values.push(Value::Int(other))?;
-    Ok(Row::of(values))
 }
 
 // Two rows of the second input, with the tickets 1 and 2.
@@ -561,8 +545,31 @@ fn two_rows(alloc: Global) -> Result<TwoRows, NoMemory>
     Ok(TwoRows { one, other })
 }
 
-// What is said of the row (7, 1) of the first input, and whether it is ripe with the ticket 0.
+// What is said of a row of the first input, and whether it is ripe with the ticket 0.
 #[tactic(auto, using(crate::proofs::ChainIs::chain_certified, crate::proofs::ChainIs::chain_parts))]
+fn judged_by(
+    spec: &JoinSpec,
+    schemes: &Schemes,
+    cert: &Cert,
+    rows: &TwoRows,
+    own: &Row,
+    stores: &[PunctStore],
+    low: u64,
+) -> (Verdict, bool)
+    requires spec { spec.now ≡ chain }
+    requires schemes { schemes.now ≡ chain_schemes }
+    requires cert { cert.now ≡ chain_cert }
+    requires rows { (length rows.now.one ≡ 2) × (length rows.now.other ≡ 2) }
+    requires own { length own.now ≡ 2 }
+    requires stores { map (λ s. s.arity) stores.now ≡ 2 ∷ 2 ∷ 2 ∷ [] }
+{
+    let route = purge_route(spec, schemes, cert, 0);
+    let said = judge_row(spec, schemes, &route, 0, own, rows, stores, low);
+    let is_ripe = ripe(spec, schemes, cert, 0, 0, own, rows, stores, low);
+    (said, is_ripe)
+}
+
+// The same of the row (7, 1).
 fn judged(alloc: Global, stores: &[PunctStore], low: u64) -> Result<(Verdict, bool), NoMemory>
     requires { map (λ s. s.arity) stores.now ≡ 2 ∷ 2 ∷ 2 ∷ [] }
 {
@@ -571,16 +578,13 @@ fn judged(alloc: Global, stores: &[PunctStore], low: u64) -> Result<(Verdict, bo
     let cert = cert(alloc)?;
     let rows = two_rows(alloc)?;
     let own = pair_row(alloc, 7, 1)?;
-    let route = purge_route(&spec, &schemes, &cert, 0);
-    let said = judge_row(&spec, &schemes, &route, 0, &own, &rows, stores, low);
-    let is_ripe = ripe(&spec, &schemes, &cert, 0, 0, &own, &rows, stores, low);
-    Ok((said, is_ripe))
+    Ok(judged_by(&spec, &schemes, &cert, &rows, &own, stores, low))
 }
 
-fn judged_closing(
+fn judged_over(
     alloc: Global,
-    first: i64,
-    second: i64,
+    first: &str,
+    second: &str,
     low: u64,
 ) -> Result<(Verdict, bool), NoMemory> {
     let stores = stores(alloc, first, second)?;
@@ -589,18 +593,20 @@ fn judged_closing(
 
 #[test]
 fn rows_are_judged_by_the_certificate(rt: HostRuntime) {
-    let alloc = rt.alloc();
-    let table = [
-        (0, 0, 9, Verdict::Open),
-        (7, 0, 3, Verdict::Lagging),
-        (7, 0, 9, Verdict::Open),
-        (7, 5, 9, Verdict::Open),
-        (7, 6, 4, Verdict::Lagging),
-        (7, 6, 9, Verdict::Ripe),
-        (7, 6, 0, Verdict::Lagging),
-    ];
-    for (first, second, low, verdict) in table {
-        let is_ripe = verdict == Verdict::Ripe;
-        assert!(rt; judged_closing(alloc, first, second, low) == Ok((verdict, is_ripe)));
+    for (first, second, low, verdict) in [
+        ("0 *", "* 0", 9, Verdict::Open),
+        ("7 *", "* 0", 3, Verdict::Lagging),
+        ("7 *", "* 0", 9, Verdict::Open),
+        ("7 *", "* 5", 9, Verdict::Open),
+        ("7 *", "* 6", 4, Verdict::Lagging),
+        ("7 *", "* 6", 9, Verdict::Ripe),
+        ("7 *", "* 6", 0, Verdict::Lagging),
+    ] {
+        let said = (verdict, verdict == Verdict::Ripe);
+        assert_eq!(rt;
+            judged_over(rt.alloc(), first, second, low),
+            Ok(said),
+            "at {first}, {second} below {low}"
+        );
     }
 }

@@ -1,178 +1,134 @@
 // What no clause says: that the calls succeed with ample memory, and what they answer on rows and runs by hand.
-ghost use Rattle.std.specs.Prelude.{◌≡◌, ◌<◌, All, IfOk, length};
+ghost use Rattle.std.specs.Prelude.{◌≡◌, ◌<◌, All};
 
+use crate::lines::{are_puncts, are_rows, punct, row};
 use pj_flow::{Union, project_punct, project_tuple, select_tuple};
-use pj_pattern::{Pattern, Punct, Shape};
-use pj_value::{List, NoMemory, Row, Value};
+use pj_value::{List, NoMemory};
 use std::alloc::Global;
-use std::test::Fail;
+use std::slice::from_ref;
 
-fn row(alloc: Global, a: i64, b: i64) -> Result<Row, NoMemory>
-    ensures { IfOk result (λ r. length r ≡ 2) }
-{
-    let mut values = List::new(alloc);
-    values.push(Value::Int(a))?;
-    values.push(Value::Int(b))?;
-    Ok(Row::of(values))
-}
-
-// All integers from one to another, or a wildcard.
-fn pattern(span: Option<(i64, i64)>) -> Pattern {
-    match span {
-        None => Pattern::wild(),
-        Some((low, high)) => Pattern::range(Some(Value::Int(low)), Some(Value::Int(high))),
+// Whether a row passes the test of 5 and a wildcard, with this as its line.
+fn passes(alloc: Global, cells: &str, line: &str) -> Result<bool, NoMemory> {
+    let test = punct(alloc, "[5..5] *")?;
+    match select_tuple(&test, row(alloc, cells)?) {
+        Some(row) => are_rows(alloc, from_ref(&row), line),
+        None => Ok(false),
     }
-}
-
-// The punctuation of 5 and a wildcard.
-fn five_and_wild(alloc: Global) -> Result<Punct, NoMemory>
-    ensures { IfOk result (λ p. length p ≡ 2) }
-{
-    let mut patterns = List::new(alloc);
-    patterns.push(pattern(Some((5, 5))))?;
-    patterns.push(Pattern::wild())?;
-    Ok(Punct::of(patterns))
-}
-
-fn has_numbers(row: &Row, numbers: &[i64]) -> bool {
-    if row.len() != numbers.len() {
-        return false;
-    }
-    for column in 0..row.len() {
-        if !row.at(column).same(&Value::Int(numbers[column])) {
-            return false;
-        }
-    }
-    true
-}
-
-fn selected(alloc: Global, a: i64, b: i64) -> Result<Option<Row>, NoMemory> {
-    let test = five_and_wild(alloc)?;
-    let row = row(alloc, a, b)?;
-    Ok(select_tuple(&test, row))
 }
 
 #[test]
 fn rows_are_selected(rt: HostRuntime) {
-    let passed = selected(rt.alloc(), 5, 7);
-    assert!(rt; matches!(&passed, Ok(Some(row)) if has_numbers(row, &[5, 7])));
-    assert!(rt; matches!(&selected(rt.alloc(), 7, 5), Ok(None)));
+    for (cells, passed) in [("5 7", true), ("7 5", false)] {
+        assert_eq!(rt;
+            passes(rt.alloc(), cells, "t 5 7\n"),
+            Ok(passed),
+            "at {cells}"
+        );
+    }
 }
 
-fn projected(alloc: Global, columns: &[u32]) -> Result<Row, NoMemory>
+// Whether these columns of the row 7, 5 are these.
+fn projects_to(alloc: Global, columns: &[u32], line: &str) -> Result<bool, NoMemory>
     requires { All (λ column. column < 2) columns.now }
 {
-    let row = row(alloc, 7, 5)?;
-    project_tuple(alloc, columns, &row)
+    let row = row(alloc, "7 5")?;
+    if row.len() != 2 {
+        return Ok(false);
+    }
+    let made = project_tuple(alloc, columns, &row)?;
+    are_rows(alloc, from_ref(&made), line)
 }
 
 #[test]
 fn rows_are_projected(rt: HostRuntime) {
-    let made = projected(rt.alloc(), &[1, 0, 1]);
-    assert!(rt; matches!(&made, Ok(row) if has_numbers(row, &[5, 7, 5])));
+    assert_eq!(rt; projects_to(rt.alloc(), &[1, 0, 1], "t 5 7 5\n"), Ok(true));
 }
 
-// A number for a pattern: its constant, its low end, or 0 for a wildcard.
-fn mark(pattern: &Pattern) -> i64 {
-    match pattern.shape() {
-        Shape::Wild => 0,
-        Shape::Constant(Value::Int(n)) => *n,
-        Shape::Range(Some(Value::Int(low)), _) => *low,
-        _ => -9,
-    }
-}
-
-fn append_marks(punct: &Punct, marks: &mut Vec<i64>) -> Result<(), NoMemory> {
-    for pattern in punct.as_slice() {
-        marks.push(mark(pattern))?;
-    }
-    Ok(())
-}
-
-fn punct_projected(alloc: Global, columns: &[u32]) -> Result<Vec<i64>, NoMemory>
+// Whether these columns of the punctuation of 5 and a wildcard are these, or none where nothing goes up.
+fn punct_projects_to(alloc: Global, columns: &[u32], line: &str) -> Result<bool, NoMemory>
     requires { All (λ column. column < 2) columns.now }
 {
-    let punct = five_and_wild(alloc)?;
-    let mut marks = Vec::new(alloc);
-    match project_punct(alloc, columns, &punct)? {
-        None => marks.push(-1)?,
-        Some(kept) => append_marks(&kept, &mut marks)?,
+    let punct = punct(alloc, "[5..5] *")?;
+    if punct.len() != 2 {
+        return Ok(false);
     }
-    Ok(marks)
+    match project_punct(alloc, columns, &punct)? {
+        None => Ok(line.is_empty()),
+        Some(kept) => are_puncts(alloc, from_ref(&kept), line),
+    }
 }
 
 #[test]
-fn punctuations_are_projected(rt: HostRuntime) -> Result<(), Fail> {
-    let alloc = rt.alloc();
-    assert_eq!(rt;
-        punct_projected(alloc, &[1, 0])?.as_slice(),
-        [0, 5].as_slice()
-    );
-    assert_eq!(rt; punct_projected(alloc, &[1])?.as_slice(), [-1].as_slice());
-    Ok(())
+fn punctuations_are_projected(rt: HostRuntime) {
+    assert_eq!(rt; punct_projects_to(rt.alloc(), &[1, 0], "p * 5\n"), Ok(true));
+    assert_eq!(rt; punct_projects_to(rt.alloc(), &[1], ""), Ok(true));
 }
 
-fn say(
+// Whether a punctuation of one column that comes at an input makes these go out.
+fn hands_up(
     alloc: Global,
     union: &mut Union,
-    input: u32,
-    span: Option<(i64, i64)>,
-    marks: &mut Vec<i64>,
-) -> Result<(), NoMemory>
-    requires input { input < union.old.inputs }
-    requires arity { union.old.arity ≡ 1 }
-    ensures inputs { union.new.inputs ≡ union.old.inputs }
-    ensures arity { union.new.arity ≡ union.old.arity }
-{
-    let mut patterns = List::new(alloc);
-    patterns.push(pattern(span))?;
-    let mut out = List::new(alloc);
-    union.punct(input, Punct::of(patterns), &mut out)?;
-    append_all(out.as_slice(), marks)
-}
-
-fn append_all(out: &[Punct], marks: &mut Vec<i64>) -> Result<(), NoMemory> {
-    for punct in out {
-        append_marks(punct, marks)?;
-    }
-    marks.push(-1)?;
-    Ok(())
-}
-
-// The marks of what goes out at each of these punctuations, with -1 behind each.
-fn union_run(
-    alloc: Global,
     inputs: u32,
-    said: &[(u32, Option<(i64, i64)>)],
-) -> Result<Vec<i64>, NoMemory>
-    requires { 0 < inputs }
+    said: (u32, &str, &str),
+) -> Result<bool, NoMemory>
+    requires inputs { union.old.inputs ≡ inputs }
+    requires arity { union.old.arity ≡ 1 }
+    ensures inputs { union.new.inputs ≡ inputs }
+    ensures arity { union.new.arity ≡ 1 }
 {
-    let mut union = Union::new(alloc, inputs, 1);
-    let mut marks = Vec::new(alloc);
-    for (input, span) in said {
-        say(alloc, &mut union, *input % inputs, *span, &mut marks)?;
+    let (input, cell, lines) = said;
+    let punct = punct(alloc, cell)?;
+    if punct.len() != 1 {
+        return Ok(false);
     }
-    Ok(marks)
+    if input >= inputs {
+        return Ok(false);
+    }
+    let mut out = List::new(alloc);
+    union.punct(input, punct, &mut out)?;
+    are_puncts(alloc, out.as_slice(), lines)
 }
+
+// Whether all of these go as told at a union of so many inputs: the input, what comes, and what goes out.
+fn union_runs(alloc: Global, inputs: u32, said: &[(u32, &str, &str)]) -> Result<bool, NoMemory> {
+    let mut union = Union::new(alloc, inputs, 1);
+    for one in said {
+        if !hands_up(alloc, &mut union, inputs, *one)? {
+            return Ok(false);
+        }
+    }
+    Ok(true)
+}
+
+const TWO_INPUTS: &[(u32, &str, &str)] = &[
+    (0, "[1..9]", ""),
+    (1, "[5..5]", "p 5\n"),
+    (0, "*", ""),
+    (1, "*", "p [1..9]\np *\np *\n"),
+];
+
+const THREE_INPUTS: &[(u32, &str, &str)] = &[
+    (0, "[5..5]", ""),
+    (0, "*", ""),
+    (1, "[5..5]", ""),
+    (2, "[4..5]", "p 5\np 5\n"),
+    (1, "*", "p [4..5]\n"),
+];
+
+const ONE_INPUT: &[(u32, &str, &str)] = &[
+    (0, "[1..9]", "p [1..9]\n"),
+    (0, "[5..5]", "p 5\n"),
+    (0, "*", "p *\n"),
+    (0, "*", "p *\n"),
+];
 
 #[test]
-fn unions_hold_punctuations_back(rt: HostRuntime) -> Result<(), Fail> {
-    let alloc = rt.alloc();
-    let two = [(0, Some((1, 9))), (1, Some((5, 5))), (0, None), (1, None)];
-    let want = [-1, 5, -1, -1, 1, 0, 0, -1];
-    assert_eq!(rt; union_run(alloc, 2, &two)?.as_slice(), want.as_slice());
-    let three = [
-        (0, Some((5, 5))),
-        (0, None),
-        (1, Some((5, 5))),
-        (2, Some((4, 5))),
-        (1, None),
-    ];
-    let want = [-1, -1, -1, 5, 5, -1, 4, -1];
-    assert_eq!(rt; union_run(alloc, 3, &three)?.as_slice(), want.as_slice());
-    assert_eq!(rt;
-        union_run(alloc, 1, &two)?.as_slice(),
-        [1, -1, 5, -1, 0, -1, 0, -1].as_slice()
-    );
-    Ok(())
+fn unions_hold_punctuations_back(rt: HostRuntime) {
+    for (inputs, said) in [(2, TWO_INPUTS), (3, THREE_INPUTS), (1, ONE_INPUT)] {
+        assert_eq!(rt;
+            union_runs(rt.alloc(), inputs, said),
+            Ok(true),
+            "at {inputs}"
+        );
+    }
 }

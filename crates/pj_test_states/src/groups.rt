@@ -1,461 +1,297 @@
 // What no clause says: that the calls succeed with ample memory, and what they hand out on runs by hand.
-ghost use Rattle.std.specs.Prelude.{◌≡◌, ◌≤◌, ◌+◌, ◌^◌, All, IfOk, length};
+ghost use Rattle.std.specs.Prelude.{◌≡◌, ◌<◌, ◌≤◌, ◌+◌, ◌^◌, All, IfOk, length};
 ghost use Rattle.pj_group.specs.Steps.{Fits, IsInRange};
 
+use crate::lines::{are, element};
 use pj_group::{Group, GroupStop};
-use pj_pattern::{Element, Pattern, Punct, Shape};
+use pj_pattern::Element;
 use pj_shape::{Agg, GroupSpec};
-use pj_value::{List, NoMemory, Row, SharedText, Value};
+use pj_value::{List, NoMemory};
 use std::alloc::Global;
-use std::test::Fail;
 
-#[derive(Clone, Copy)]
-enum Said {
-    Row(i64, i64),
-    Close(Option<i64>, Option<i64>),
-    // The ends of a range of the first column.
-    CloseBetween(Option<i64>, Option<i64>),
-}
-
-// A group of rows of two columns by the first.
-fn group_of(alloc: Global, aggs: &[Agg], limit: u64) -> Result<Group, NoMemory>
-    requires range { All (IsInRange 2) aggs.now }
-    requires few { length aggs.now ≤ 100 }
+// A group of rows of so many columns by these.
+fn group_of(
+    alloc: Global,
+    width: usize,
+    keys: &[u32],
+    aggs: &[Agg],
+    limit: u64,
+) -> Result<Group, NoMemory>
+    requires keys { All (λ column. column < width) keys.now }
+    requires range { All (IsInRange width) aggs.now }
+    requires few { length keys.now + length aggs.now ≤ 120 }
     requires limit { limit ≤ 2 ^ 40 }
-    ensures fits { IfOk result (λ g. Fits g.spec 2) }
+    ensures fits { IfOk result (λ g. Fits g.spec width) }
     ensures few { IfOk result (λ g. length g.spec.keys + length g.spec.aggs ≤ 120) }
 {
-    let keys = List::copy_of(alloc, &[0])?;
+    let keys = List::copy_of(alloc, keys)?;
     let aggs = List::copy_of(alloc, aggs)?;
     Ok(Group::new(alloc, GroupSpec { keys, aggs }, limit)?)
 }
 
-fn put(alloc: Global, group: &mut Group, a: Value, b: Value) -> Result<(), GroupStop>
-    requires { Fits group.old.spec 2 }
-    ensures { group.new.spec ≡ group.old.spec }
-{
-    let mut values = List::new(alloc);
-    values.push(a)?;
-    values.push(b)?;
-    group.tuple(Row::of(values))
-}
-
-fn pattern(number: Option<i64>) -> Pattern {
-    match number {
-        None => Pattern::wild(),
-        Some(n) => Pattern::range(Some(Value::Int(n)), Some(Value::Int(n))),
-    }
-}
-
-fn between(low: Option<i64>, high: Option<i64>) -> Pattern {
-    match (low, high) {
-        (None, None) => Pattern::wild(),
-        (None, Some(high)) => Pattern::range(None, Some(Value::Int(high))),
-        (Some(low), None) => Pattern::range(Some(Value::Int(low)), None),
-        (Some(low), Some(high)) => Pattern::range(Some(Value::Int(low)), Some(Value::Int(high))),
-    }
-}
-
-fn close(
-    alloc: Global,
-    group: &mut Group,
-    a: Pattern,
-    b: Pattern,
-    out: &mut List<Element>,
-) -> Result<(), GroupStop>
-    requires fits { Fits group.old.spec 2 }
-    requires few { length group.old.spec.keys + length group.old.spec.aggs ≤ 120 }
-    ensures { group.new.spec ≡ group.old.spec }
-{
-    let mut patterns = List::new(alloc);
-    patterns.push(a)?;
-    patterns.push(b)?;
-    group.punct(Punct::of(patterns), out)
-}
-
+// Takes what a line says.
 fn say(
     alloc: Global,
     group: &mut Group,
-    said: Said,
+    width: usize,
+    line: &str,
     out: &mut List<Element>,
 ) -> Result<(), GroupStop>
-    requires fits { Fits group.old.spec 2 }
+    requires fits { Fits group.old.spec width }
     requires few { length group.old.spec.keys + length group.old.spec.aggs ≤ 120 }
     ensures { group.new.spec ≡ group.old.spec }
 {
-    match said {
-        Said::Row(a, b) => put(alloc, group, Value::Int(a), Value::Int(b)),
-        Said::Close(a, b) => close(alloc, group, pattern(a), pattern(b), out),
-        Said::CloseBetween(low, high) => {
-            close(alloc, group, between(low, high), Pattern::wild(), out)
+    match element(alloc, line)? {
+        Element::Tuple(row) => {
+            if row.len() != width {
+                return Err(GroupStop::NoMemory);
+            }
+            group.tuple(row)
+        }
+        Element::Punct(punct) => {
+            if punct.len() != width {
+                return Err(GroupStop::NoMemory);
+            }
+            group.punct(punct, out)
         }
     }
 }
 
-// A number, the length of a text.
-fn value_mark(value: &Value) -> i64 {
-    match value {
-        Value::Int(n) => *n,
-        Value::Text(text) => (text.len() % 1000) as i64,
-    }
-}
-
-// A constant, or -7 for any other pattern.
-fn pattern_mark(pattern: &Pattern) -> i64 {
-    match pattern.shape() {
-        Shape::Constant(value) => value_mark(value),
-        _ => -7,
-    }
-}
-
-fn append_marks(element: &Element, marks: &mut Vec<i64>) -> Result<(), NoMemory> {
-    match element {
-        Element::Tuple(row) => append_row(row, marks),
-        Element::Punct(punct) => append_punct(punct, marks),
-    }
-}
-
-fn append_row(row: &Row, marks: &mut Vec<i64>) -> Result<(), NoMemory> {
-    for column in 0..row.len() {
-        marks.push(value_mark(row.at(column)))?;
-    }
-    Ok(())
-}
-
-fn append_punct(punct: &Punct, marks: &mut Vec<i64>) -> Result<(), NoMemory> {
-    for pattern in punct.as_slice() {
-        marks.push(pattern_mark(pattern))?;
-    }
-    Ok(())
-}
-
-fn marks_of(alloc: Global, out: &[Element]) -> Result<Vec<i64>, NoMemory> {
-    let mut marks = Vec::new(alloc);
-    for element in out {
-        append_marks(element, &mut marks)?;
-    }
-    Ok(marks)
-}
-
-// What goes out.
-fn run(alloc: Global, aggs: &[Agg], all: &[Said]) -> Result<Vec<i64>, GroupStop>
-    requires range { All (IsInRange 2) aggs.now }
-    requires few { length aggs.now ≤ 100 }
+fn say_all(
+    alloc: Global,
+    group: &mut Group,
+    width: usize,
+    lines: &[&str],
+    out: &mut List<Element>,
+) -> Result<(), GroupStop>
+    requires fits { Fits group.old.spec width }
+    requires few { length group.old.spec.keys + length group.old.spec.aggs ≤ 120 }
 {
-    let mut group = group_of(alloc, aggs, 1000)?;
-    let mut out = List::new(alloc);
-    for said in all {
-        say(alloc, &mut group, *said, &mut out)?;
+    for line in lines {
+        say(alloc, group, width, line, out)?;
     }
-    Ok(marks_of(alloc, out.as_slice())?)
+    Ok(())
 }
 
-fn agrees(made: &Result<Vec<i64>, GroupStop>, want: &[i64]) -> bool {
-    matches!(made, Ok(marks) if marks.as_slice() == want)
+// Whether a group of rows of so many columns by these, with at most so many elements, hands out these lines.
+fn hands_out(
+    alloc: Global,
+    width: usize,
+    keys: &[u32],
+    aggs: &[Agg],
+    limit: u64,
+    said: &[&str],
+    lines: &str,
+) -> Result<bool, GroupStop>
+    requires keys { All (λ column. column < width) keys.now }
+    requires range { All (IsInRange width) aggs.now }
+    requires few { length keys.now + length aggs.now ≤ 120 }
+    requires limit { limit ≤ 2 ^ 40 }
+{
+    let mut group = group_of(alloc, width, keys, aggs, limit)?;
+    let mut out = List::new(alloc);
+    say_all(alloc, &mut group, width, said, &mut out)?;
+    Ok(are(alloc, out.as_slice(), lines)?)
 }
+
+const SUMS: &[&str] = &[
+    "t 1 50",
+    "t 2 7",
+    "t 1 60",
+    "p * [50..50]",
+    "p [1..1] *",
+    "t 2 9223372036854775807",
+    "p * *",
+];
+
+const SUMS_OUT: &str = "t 1 2 110\np 1 * *\nt 2 2 9223372036854775807\np * * *\n";
 
 #[test]
 fn groups_close_where_keys_match(rt: HostRuntime) {
-    let said = [
-        Said::Row(1, 50),
-        Said::Row(2, 7),
-        Said::Row(1, 60),
-        Said::Close(None, Some(50)),
-        Said::Close(Some(1), None),
-        Said::Row(2, 9223372036854775807),
-        Said::Close(None, None),
-    ];
-    let want = [1, 2, 110, 1, -7, -7, 2, 2, 9223372036854775807, -7, -7, -7];
-    let made = run(rt.alloc(), &[Agg::Count, Agg::Sum(1)], &said);
-    assert!(rt; agrees(&made, &want));
+    let aggs = [Agg::Count, Agg::Sum(1)];
+    assert_eq!(rt;
+        hands_out(rt.alloc(), 2, &[0], &aggs, 1000, SUMS, SUMS_OUT),
+        Ok(true)
+    );
 }
 
-// Groups that are closed one by one, and one whose key comes again.
-#[test]
-fn closed_groups_leave_the_order(rt: HostRuntime) {
-    let said = [
-        Said::Row(1, 0),
-        Said::Row(2, 0),
-        Said::Row(3, 0),
-        Said::Row(2, 0),
-        Said::Close(Some(2), None),
-        Said::Row(4, 0),
-        Said::Row(2, 0),
-        Said::Close(Some(5), None),
-        Said::Close(Some(3), None),
-        Said::Close(Some(1), None),
-        Said::Close(None, None),
-    ];
-    let want = [
-        2, 2, 2, -7, 5, -7, 3, 1, 3, -7, 1, 1, 1, -7, 4, 1, 2, 1, -7, -7,
-    ];
-    assert!(rt; agrees(&run(rt.alloc(), &[Agg::Count], &said), &want));
-}
+const CLAMPED: &[&str] = &[
+    "t 3 9223372036854775807",
+    "t 1 -9223372036854775807",
+    "t 3 9223372036854775807",
+    "t 1 -9",
+    "t 3 -9223372036854775807",
+    "t 3 -9223372036854775807",
+    "t 3 -2",
+    "p * *",
+];
 
-// Each range but the last two comes to at most half of the groups; 20 is closed and comes again, and then stands last.
-#[test]
-fn groups_close_by_ranges(rt: HostRuntime) {
-    let said = [
-        Said::Row(30, 0),
-        Said::Row(10, 0),
-        Said::Row(50, 0),
-        Said::Row(20, 0),
-        Said::Row(40, 0),
-        Said::Row(60, 0),
-        Said::Row(10, 0),
-        Said::Row(-5, 0),
-        Said::CloseBetween(Some(20), Some(30)),
-        Said::CloseBetween(None, Some(0)),
-        Said::CloseBetween(Some(61), None),
-        Said::Row(20, 0),
-        Said::Row(35, 0),
-        Said::CloseBetween(Some(15), Some(35)),
-        Said::CloseBetween(Some(50), None),
-        Said::Row(5, 0),
-        Said::CloseBetween(None, Some(9)),
-        Said::CloseBetween(Some(0), Some(100)),
-        Said::CloseBetween(None, None),
-    ];
-    let want = [
-        30, 1, 20, 1, -7, -7, -5, 1, -7, -7, -7, -7, 20, 1, 35, 1, -7, -7, 50, 1, 60, 1, -7, -7, 5,
-        1, -7, -7, 10, 2, 40, 1, -7, -7, -7, -7,
-    ];
-    assert!(rt; agrees(&run(rt.alloc(), &[Agg::Count], &said), &want));
-}
-
-// Ranges that reach further each time, and past what was closed before; 2 is closed and comes again, and then stands last.
-#[test]
-fn watermarks_close_what_came_since(rt: HostRuntime) {
-    let said = [
-        Said::Row(3, 0),
-        Said::Row(1, 0),
-        Said::Row(8, 0),
-        Said::Row(2, 0),
-        Said::Row(5, 0),
-        Said::Row(4, 0),
-        Said::Row(7, 0),
-        Said::Row(6, 0),
-        Said::CloseBetween(None, Some(1)),
-        Said::CloseBetween(None, Some(2)),
-        Said::CloseBetween(None, Some(2)),
-        Said::CloseBetween(None, Some(4)),
-        Said::Row(9, 0),
-        Said::Row(2, 0),
-        Said::CloseBetween(None, Some(5)),
-        Said::CloseBetween(None, Some(9)),
-    ];
-    let want = [
-        1, 1, -7, -7, 2, 1, -7, -7, -7, -7, 3, 1, 4, 1, -7, -7, 5, 1, 2, 1, -7, -7, 8, 1, 7, 1, 6,
-        1, 9, 1, -7, -7,
-    ];
-    assert!(rt; agrees(&run(rt.alloc(), &[Agg::Count], &said), &want));
-}
+const CLAMPED_OUT: &str =
+    "t 3 -2 -9223372036854775807 9223372036854775807\nt 1 -9223372036854775808 -9223372036854775807 -9\np * * * *\n";
 
 #[test]
 fn sums_are_exact_and_clamped(rt: HostRuntime) {
-    let (least, greatest) = (-9223372036854775807, 9223372036854775807);
-    let said = [
-        Said::Row(3, greatest),
-        Said::Row(1, least),
-        Said::Row(3, greatest),
-        Said::Row(1, -9),
-        Said::Row(3, least),
-        Said::Row(3, least),
-        Said::Row(3, -2),
-        Said::Close(None, None),
-    ];
     let aggs = [Agg::Sum(1), Agg::Min(1), Agg::Max(1)];
-    let want = [
-        3,
-        -2,
-        least,
-        greatest,
-        1,
-        least - 1,
-        least,
-        -9,
-        -7,
-        -7,
-        -7,
-        -7,
-    ];
-    assert!(rt; agrees(&run(rt.alloc(), &aggs, &said), &want));
+    assert_eq!(rt;
+        hands_out(rt.alloc(), 2, &[0], &aggs, 1000, CLAMPED, CLAMPED_OUT),
+        Ok(true)
+    );
 }
 
-// What is said to a group of rows of three columns by the first two.
-#[derive(Clone, Copy)]
-enum PairSaid {
-    Row(i64, i64, i64),
-    Close(Option<i64>, Option<i64>),
-    CloseUpTo(i64, i64),
-}
-
-fn pair_group(alloc: Global) -> Result<Group, NoMemory>
-    ensures fits { IfOk result (λ g. Fits g.spec 3) }
-    ensures few { IfOk result (λ g. length g.spec.keys + length g.spec.aggs ≤ 120) }
-{
-    let keys = List::copy_of(alloc, &[0, 1])?;
-    let aggs = List::copy_of(alloc, &[Agg::Count, Agg::Sum(2)])?;
-    Ok(Group::new(alloc, GroupSpec { keys, aggs }, 1000)?)
-}
-
-fn put_three(alloc: Global, group: &mut Group, a: i64, b: i64, c: i64) -> Result<(), GroupStop>
-    requires { Fits group.old.spec 3 }
-    ensures { group.new.spec ≡ group.old.spec }
-{
-    let mut values = List::new(alloc);
-    values.push(Value::Int(a))?;
-    values.push(Value::Int(b))?;
-    values.push(Value::Int(c))?;
-    group.tuple(Row::of(values))
-}
-
-fn close_pairs(
-    alloc: Global,
-    group: &mut Group,
-    a: Pattern,
-    b: Pattern,
-    out: &mut List<Element>,
-) -> Result<(), GroupStop>
-    requires fits { Fits group.old.spec 3 }
-    requires few { length group.old.spec.keys + length group.old.spec.aggs ≤ 120 }
-    ensures { group.new.spec ≡ group.old.spec }
-{
-    let mut patterns = List::new(alloc);
-    patterns.push(a)?;
-    patterns.push(b)?;
-    patterns.push(Pattern::wild())?;
-    group.punct(Punct::of(patterns), out)
-}
-
-fn say_pair(
-    alloc: Global,
-    group: &mut Group,
-    said: PairSaid,
-    out: &mut List<Element>,
-) -> Result<(), GroupStop>
-    requires fits { Fits group.old.spec 3 }
-    requires few { length group.old.spec.keys + length group.old.spec.aggs ≤ 120 }
-    ensures { group.new.spec ≡ group.old.spec }
-{
-    match said {
-        PairSaid::Row(a, b, c) => put_three(alloc, group, a, b, c),
-        PairSaid::Close(a, b) => close_pairs(alloc, group, pattern(a), pattern(b), out),
-        PairSaid::CloseUpTo(a, b) => {
-            let up_to = Pattern::range(None, Some(Value::Int(b)));
-            close_pairs(alloc, group, pattern(Some(a)), up_to, out)
-        }
-    }
-}
-
-fn run_pairs(alloc: Global, all: &[PairSaid]) -> Result<Vec<i64>, GroupStop> {
-    let mut group = pair_group(alloc)?;
-    let mut out = List::new(alloc);
-    for said in all {
-        say_pair(alloc, &mut group, *said, &mut out)?;
-    }
-    Ok(marks_of(alloc, out.as_slice())?)
-}
-
-// The second punctuation comes to more than half of the places, so that closed groups are cleared away.
-#[test]
-fn groups_close_by_one_of_two_columns(rt: HostRuntime) {
-    let said = [
-        PairSaid::Row(1, 1, 10),
-        PairSaid::Row(2, 1, 20),
-        PairSaid::Row(1, 2, 30),
-        PairSaid::Row(3, 3, 5),
-        PairSaid::Row(2, 2, 1),
-        PairSaid::Close(Some(1), None),
-        PairSaid::Row(4, 1, 7),
-        PairSaid::Row(2, 1, 2),
-        PairSaid::Close(None, Some(1)),
-        PairSaid::Row(2, 3, 4),
-        PairSaid::Row(3, 4, 6),
-        PairSaid::Row(2, 2, 1),
-        PairSaid::Close(Some(2), None),
-        PairSaid::Close(Some(2), None),
-        PairSaid::CloseUpTo(3, 3),
-        PairSaid::Close(None, None),
-    ];
-    let want = [
-        1, 1, 1, 10, 1, 2, 1, 30, 1, -7, -7, -7, 2, 1, 2, 22, 4, 1, 1, 7, -7, 1, -7, -7, 2, 2, 2,
-        2, 2, 3, 1, 4, 2, -7, -7, -7, 2, -7, -7, -7, 3, 3, 1, 5, 3, -7, -7, -7, 3, 4, 1, 6, -7, -7,
-        -7, -7,
-    ];
-    assert!(rt; agrees(&run_pairs(rt.alloc(), &said), &want));
-}
-
-fn text(alloc: Global, bytes: &[u8]) -> Result<Value, NoMemory> {
-    Ok(Value::Text(SharedText::copy_of(alloc, bytes)?))
-}
-
-// The lengths of the least and the greatest of three texts.
-fn texts(alloc: Global) -> Result<Vec<i64>, GroupStop> {
-    let mut group = group_of(alloc, &[Agg::Min(1), Agg::Max(1)], 4)?;
-    put(alloc, &mut group, Value::Int(1), text(alloc, b"bb")?)?;
-    put(alloc, &mut group, Value::Int(1), text(alloc, b"abcd")?)?;
-    put(alloc, &mut group, Value::Int(1), text(alloc, b"b")?)?;
-    let mut out = List::new(alloc);
-    close(
-        alloc,
-        &mut group,
-        pattern(Some(1)),
-        Pattern::wild(),
-        &mut out,
-    )?;
-    Ok(marks_of(alloc, out.as_slice())?)
-}
-
-fn put_all(alloc: Global, group: &mut Group) -> Result<(), GroupStop>
-    requires { Fits group.old.spec 2 }
-    ensures { group.new.spec ≡ group.old.spec }
-{
-    put(alloc, group, text(alloc, b"b")?, Value::Int(1))?;
-    put(alloc, group, Value::Int(9), Value::Int(1))?;
-    put(alloc, group, text(alloc, b"ddd")?, Value::Int(1))?;
-    put(alloc, group, Value::Int(3), Value::Int(1))
-}
-
-// What a range of integers hands out of a column that has texts too, and then a range of texts.
-fn mixed(alloc: Global) -> Result<Vec<i64>, GroupStop> {
-    let mut group = group_of(alloc, &[Agg::Count], 9)?;
-    put_all(alloc, &mut group)?;
-    let mut out = List::new(alloc);
-    let integers = between(Some(1), None);
-    close(alloc, &mut group, integers, Pattern::wild(), &mut out)?;
-    let texts = Pattern::range(Some(text(alloc, b"c")?), None);
-    close(alloc, &mut group, texts, Pattern::wild(), &mut out)?;
-    Ok(marks_of(alloc, out.as_slice())?)
-}
-
-#[test]
-fn ranges_are_of_one_kind(rt: HostRuntime) {
-    assert!(rt; agrees(&mixed(rt.alloc()), &[9, 1, 3, 1, -7, -7, 3, 1, -7, -7]));
-}
+const TEXTS: &[&str] = &["t 1 \"bb\"", "t 1 \"abcd\"", "t 1 \"b\"", "p [1..1] *"];
 
 #[test]
 fn texts_have_least_and_greatest(rt: HostRuntime) {
-    assert!(rt; agrees(&texts(rt.alloc()), &[1, 4, 2, 1, -7, -7]));
+    let aggs = [Agg::Min(1), Agg::Max(1)];
+    let lines = "t 1 \"abcd\" \"bb\"\np 1 * *\n";
+    assert_eq!(rt;
+        hands_out(rt.alloc(), 2, &[0], &aggs, 4, TEXTS, lines),
+        Ok(true)
+    );
+}
+
+// Groups that are closed one by one, and one whose key comes again.
+const CLOSED: &[&str] = &[
+    "t 1 0",
+    "t 2 0",
+    "t 3 0",
+    "t 2 0",
+    "p [2..2] *",
+    "t 4 0",
+    "t 2 0",
+    "p [5..5] *",
+    "p [3..3] *",
+    "p [1..1] *",
+    "p * *",
+];
+
+const CLOSED_OUT: &str = "t 2 2\np 2 *\np 5 *\nt 3 1\np 3 *\nt 1 1\np 1 *\nt 4 1\nt 2 1\np * *\n";
+
+// Each range but the last two comes to at most half of the groups; 20 is closed and comes again, and then stands last.
+const RANGES: &[&str] = &[
+    "t 30 0",
+    "t 10 0",
+    "t 50 0",
+    "t 20 0",
+    "t 40 0",
+    "t 60 0",
+    "t 10 0",
+    "t -5 0",
+    "p [20..30] *",
+    "p [..0] *",
+    "p [61..] *",
+    "t 20 0",
+    "t 35 0",
+    "p [15..35] *",
+    "p [50..] *",
+    "t 5 0",
+    "p [..9] *",
+    "p [0..100] *",
+    "p * *",
+];
+
+const RANGES_OUT: &str =
+    "t 30 1\nt 20 1\np [20..30] *\nt -5 1\np [..0] *\np [61..] *\nt 20 1\nt 35 1\np [15..35] *\nt 50 1\nt 60 1\np [50..] *\nt 5 1\np [..9] *\nt 10 2\nt 40 1\np [0..100] *\np * *\n";
+
+// Ranges that reach further each time, and past what was closed before; 2 is closed and comes again, and then stands last.
+const WATERMARKS: &[&str] = &[
+    "t 3 0",
+    "t 1 0",
+    "t 8 0",
+    "t 2 0",
+    "t 5 0",
+    "t 4 0",
+    "t 7 0",
+    "t 6 0",
+    "p [..1] *",
+    "p [..2] *",
+    "p [..2] *",
+    "p [..4] *",
+    "t 9 0",
+    "t 2 0",
+    "p [..5] *",
+    "p [..9] *",
+];
+
+const WATERMARKS_OUT: &str =
+    "t 1 1\np [..1] *\nt 2 1\np [..2] *\np [..2] *\nt 3 1\nt 4 1\np [..4] *\nt 5 1\nt 2 1\np [..5] *\nt 8 1\nt 7 1\nt 6 1\nt 9 1\np [..9] *\n";
+
+// A range of integers over a column that has texts too, and then a range of texts.
+const MIXED: &[&str] = &[
+    "t \"b\" 1",
+    "t 9 1",
+    "t \"ddd\" 1",
+    "t 3 1",
+    "p [1..] *",
+    "p [\"c\"..] *",
+];
+
+const MIXED_OUT: &str = "t 9 1\nt 3 1\np [1..] *\nt \"ddd\" 1\np [\"c\"..] *\n";
+
+// Counts by the first of two columns.
+#[test]
+fn counted_groups_close(rt: HostRuntime) {
+    for (name, limit, said, lines) in [
+        ("closed groups leave the order", 1000, CLOSED, CLOSED_OUT),
+        ("groups close by ranges", 1000, RANGES, RANGES_OUT),
+        (
+            "watermarks close what came since",
+            1000,
+            WATERMARKS,
+            WATERMARKS_OUT,
+        ),
+        ("ranges are of one kind", 9, MIXED, MIXED_OUT),
+    ] {
+        let handed = hands_out(rt.alloc(), 2, &[0], &[Agg::Count], limit, said, lines);
+        assert_eq!(rt; handed, Ok(true), "at {name}");
+    }
+}
+
+// Rows of three columns, by the first two. The second punctuation comes to more than half of the places, so that closed groups
+// are cleared away.
+const PAIRS: &[&str] = &[
+    "t 1 1 10",
+    "t 2 1 20",
+    "t 1 2 30",
+    "t 3 3 5",
+    "t 2 2 1",
+    "p [1..1] * *",
+    "t 4 1 7",
+    "t 2 1 2",
+    "p * [1..1] *",
+    "t 2 3 4",
+    "t 3 4 6",
+    "t 2 2 1",
+    "p [2..2] * *",
+    "p [2..2] * *",
+    "p [3..3] [..3] *",
+    "p * * *",
+];
+
+const PAIRS_OUT: &str =
+    "t 1 1 1 10\nt 1 2 1 30\np 1 * * *\nt 2 1 2 22\nt 4 1 1 7\np * 1 * *\nt 2 2 2 2\nt 2 3 1 4\np 2 * * *\np 2 * * *\nt 3 3 1 5\np 3 [..3] * *\nt 3 4 1 6\np * * * *\n";
+
+#[test]
+fn groups_close_by_one_of_two_columns(rt: HostRuntime) {
+    let aggs = [Agg::Count, Agg::Sum(2)];
+    assert_eq!(rt;
+        hands_out(rt.alloc(), 3, &[0, 1], &aggs, 1000, PAIRS, PAIRS_OUT),
+        Ok(true)
+    );
+}
+
+// How three elements go at a group that takes one.
+fn three_at_one(alloc: Global) -> Result<[Result<(), GroupStop>; 3], NoMemory> {
+    let mut group = group_of(alloc, 2, &[0], &[Agg::Count], 1)?;
+    let mut out = List::new(alloc);
+    let first = say(alloc, &mut group, 2, "t 1 1", &mut out);
+    let second = say(alloc, &mut group, 2, "t 1 1", &mut out);
+    let third = say(alloc, &mut group, 2, "p * *", &mut out);
+    Ok([first, second, third])
 }
 
 #[test]
-fn no_more_than_the_limit_come(rt: HostRuntime) -> Result<(), Fail> {
-    let alloc = rt.alloc();
-    let mut group = group_of(alloc, &[Agg::Count], 1)?;
-    let first = put(alloc, &mut group, Value::Int(1), Value::Int(1));
-    let second = put(alloc, &mut group, Value::Int(1), Value::Int(1));
-    let third = close(
-        alloc,
-        &mut group,
-        Pattern::wild(),
-        Pattern::wild(),
-        &mut List::new(alloc),
-    );
-    assert_eq!(rt; first, Ok(()));
-    assert_eq!(rt;
-        (second, third),
-        (Err(GroupStop::Limit), Err(GroupStop::Limit))
-    );
-    Ok(())
+fn no_more_than_the_limit_come(rt: HostRuntime) {
+    let full = Err(GroupStop::Limit);
+    assert_eq!(rt; three_at_one(rt.alloc()), Ok([Ok(()), full, full]));
 }

@@ -8,6 +8,8 @@ mod flows;
 #[cfg(test)]
 mod groups;
 #[cfg(test)]
+mod lines;
+#[cfg(test)]
 mod probes;
 #[cfg(test)]
 mod states;

@@ -1,10 +1,10 @@
 // What no clause says: that the calls succeed with ample memory, and what the definitions mean on a join by hand.
-ghost use Rattle.std.specs.Prelude.{◌≡◌, ◌≤◌, length, IfOk};
 
+use crate::lines::{are_rows, row};
 use pj_probe::{JoinChecks, Joined, Lent, Probe, Visit, each_lent};
 use pj_shape::ClassCol;
 use pj_state::Shared;
-use pj_value::{List, NoMemory, Row, Value};
+use pj_value::{List, NoMemory, Value};
 use std::alloc::Global;
 use std::sync::Arc;
 
@@ -24,37 +24,39 @@ fn triple(alloc: Global) -> Result<Arc<JoinChecks, Global>, NoMemory> {
     JoinChecks::new(alloc, classes.as_slice())
 }
 
-fn shared(alloc: Global, a: i64, b: i64) -> Result<Shared, NoMemory> {
-    let mut values = List::new(alloc);
-    values.push(Value::Int(a))?;
-    values.push(Value::Int(b))?;
-    Shared::new(alloc, Row::of(values))
-}
+// Rows with their tickets.
+type Side = &'static [(u64, &'static str)];
 
-fn side(alloc: Global, rows: &[(u64, i64, i64)]) -> Result<List<(u64, Shared)>, NoMemory> {
+fn side(alloc: Global, rows: Side) -> Result<List<(u64, Shared)>, NoMemory> {
     let mut side = List::new(alloc);
-    for (ticket, a, b) in rows {
-        side.push((*ticket, shared(alloc, *a, *b)?))?;
+    for (ticket, cells) in rows {
+        side.push((*ticket, Shared::new(alloc, row(alloc, cells)?)?))?;
     }
     Ok(side)
 }
 
-// The probe with ticket 9 of the join with number 7, over two candidates of each other input of which all join, and
-// a few that don't.
+// Two candidates of each other input of which all join with the row of the second one, and a few that don't.
+const SIDES: [Side; 3] = [
+    &[(0, "1 10"), (1, "2 11"), (2, "1 12")],
+    &[(9, "1 5")],
+    &[(3, "20 5"), (4, "21 6"), (5, "22 5")],
+];
+
+fn sides(alloc: Global) -> Result<List<List<(u64, Shared)>>, NoMemory> {
+    let mut sides = List::new(alloc);
+    for rows in SIDES {
+        sides.push(side(alloc, rows)?)?;
+    }
+    Ok(sides)
+}
+
+// The probe with ticket 9 of the join with number 7.
 fn probe(alloc: Global) -> Result<Probe, NoMemory> {
-    three(alloc, first(alloc)?, own(alloc)?, last(alloc)?)
-}
-
-fn first(alloc: Global) -> Result<List<(u64, Shared)>, NoMemory> {
-    side(alloc, &[(0, 1, 10), (1, 2, 11), (2, 1, 12)])
-}
-
-fn own(alloc: Global) -> Result<List<(u64, Shared)>, NoMemory> {
-    side(alloc, &[(9, 1, 5)])
-}
-
-fn last(alloc: Global) -> Result<List<(u64, Shared)>, NoMemory> {
-    side(alloc, &[(3, 20, 5), (4, 21, 6), (5, 22, 5)])
+    let sides = sides(alloc)?;
+    if sides.len() > 16 {
+        return Err(NoMemory);
+    }
+    Ok(Probe::new(7, 9, triple(alloc)?, sides))
 }
 
 fn lent(alloc: Global, side: &[(u64, Shared)]) -> Result<List<(u64, Lent<'_>)>, NoMemory> {
@@ -67,43 +69,13 @@ fn lent(alloc: Global, side: &[(u64, Shared)]) -> Result<List<(u64, Lent<'_>)>, 
 
 fn lent_sides<'a>(
     alloc: Global,
-    first: &'a [(u64, Shared)],
-    own: &'a [(u64, Shared)],
-    last: &'a [(u64, Shared)],
-) -> Result<List<List<(u64, Lent<'a>)>>, NoMemory>
-    ensures { IfOk result (λ sides. length sides ≤ 16) }
-{
-    let mut sides = List::new(alloc);
-    sides.push(lent(alloc, first)?)?;
-    sides.push(lent(alloc, own)?)?;
-    sides.push(lent(alloc, last)?)?;
-    Ok(sides)
-}
-
-fn three(
-    alloc: Global,
-    first: List<(u64, Shared)>,
-    own: List<(u64, Shared)>,
-    last: List<(u64, Shared)>,
-) -> Result<Probe, NoMemory> {
-    let checks = triple(alloc)?;
-    let sides = three_sides(alloc, first, own, last)?;
-    Ok(Probe::new(7, 9, checks, sides))
-}
-
-fn three_sides(
-    alloc: Global,
-    first: List<(u64, Shared)>,
-    own: List<(u64, Shared)>,
-    last: List<(u64, Shared)>,
-) -> Result<List<List<(u64, Shared)>>, NoMemory>
-    ensures { IfOk result (λ sides. length sides ≤ 16) }
-{
-    let mut sides = List::new(alloc);
-    sides.push(first)?;
-    sides.push(own)?;
-    sides.push(last)?;
-    Ok(sides)
+    sides: &'a [List<(u64, Shared)>],
+) -> Result<List<List<(u64, Lent<'a>)>>, NoMemory> {
+    let mut all = List::new(alloc);
+    for at in 0..sides.len() {
+        all.push(lent(alloc, sides[at].as_slice())?)?;
+    }
+    Ok(all)
 }
 
 fn number(value: Option<&Value>) -> i64 {
@@ -151,75 +123,46 @@ impl Visit for Notes {
     }
 }
 
-// What is noted of the combinations, of so many at most, and 0 at the end where the walk was refused.
-fn noted(alloc: Global, most: usize) -> Result<Vec<i64>, NoMemory> {
+// Whether so many numbers at most are noted as these, and the walk then ends.
+fn is_noted(alloc: Global, most: usize, expected: &[i64]) -> Result<bool, NoMemory> {
     let probe = probe(alloc)?;
     let mut notes = Notes {
         numbers: Vec::new(alloc),
         left: most,
     };
-    let refused = probe.each(&mut notes).is_err();
-    let Notes {
-        mut numbers,
-        left: _,
-    } = notes;
-    if refused {
-        numbers.push(0)?;
-    }
-    Ok(numbers)
+    let is_refused = probe.each(&mut notes).is_err();
+    Ok(notes.numbers.as_slice() == expected && is_refused == (most < 4))
 }
 
-// What is noted of the combinations of the same rows, lent.
-fn noted_lent(alloc: Global) -> Result<Vec<i64>, NoMemory> {
+// The same of the same rows, lent.
+fn is_noted_lent(alloc: Global, expected: &[i64]) -> Result<bool, NoMemory> {
     let checks = triple(alloc)?;
-    let (first, own, last) = (first(alloc)?, own(alloc)?, last(alloc)?);
-    let sides = lent_sides(alloc, first.as_slice(), own.as_slice(), last.as_slice())?;
+    let owned = sides(alloc)?;
+    let sides = lent_sides(alloc, owned.as_slice())?;
+    if sides.len() > 16 {
+        return Ok(false);
+    }
     let mut notes = Notes {
         numbers: Vec::new(alloc),
         left: 4,
     };
     each_lent(&checks, sides.as_slice(), &mut notes)?;
-    let Notes { numbers, left: _ } = notes;
-    Ok(numbers)
+    Ok(notes.numbers.as_slice() == expected)
 }
 
-// The join's number, the ticket, and all numbers of the rows that are found.
-fn found(alloc: Global) -> Result<Vec<i64>, NoMemory> {
+// Whether these rows are found.
+fn is_found(alloc: Global, lines: &str) -> Result<bool, NoMemory> {
     let found = probe(alloc)?.work(alloc)?;
-    let mut all = Vec::new(alloc);
-    all.push(found.join as i64)?;
-    all.push((found.ticket % 1000) as i64)?;
-    for row in found.rows.as_slice() {
-        append_numbers(row, &mut all)?;
+    if found.join != 7 || found.ticket != 9 {
+        return Ok(false);
     }
-    Ok(all)
-}
-
-fn append_numbers(row: &Row, all: &mut Vec<i64>) -> Result<(), NoMemory> {
-    for column in 0..row.len() {
-        all.push(number(row.get(column)))?;
-    }
-    Ok(())
-}
-
-fn is_found(alloc: Global, expected: &[i64]) -> Result<bool, NoMemory> {
-    Ok(found(alloc)?.as_slice() == expected)
-}
-
-fn is_noted(alloc: Global, most: usize, expected: &[i64]) -> Result<bool, NoMemory> {
-    Ok(noted(alloc, most)?.as_slice() == expected)
-}
-
-fn is_noted_lent(alloc: Global, expected: &[i64]) -> Result<bool, NoMemory> {
-    Ok(noted_lent(alloc)?.as_slice() == expected)
+    are_rows(alloc, found.rows.as_slice(), lines)
 }
 
 #[test]
 fn finds_the_rows_in_order(rt: HostRuntime) {
-    let rows = [
-        7, 9, 1, 10, 1, 5, 20, 5, 1, 10, 1, 5, 22, 5, 1, 12, 1, 5, 20, 5, 1, 12, 1, 5, 22, 5,
-    ];
-    assert_eq!(rt; is_found(rt.alloc(), &rows), Ok(true));
+    let lines = "t 1 10 1 5 20 5\nt 1 10 1 5 22 5\nt 1 12 1 5 20 5\nt 1 12 1 5 22 5\n";
+    assert_eq!(rt; is_found(rt.alloc(), lines), Ok(true));
 }
 
 const NOTES: [i64; 16] = [20, 10, 1, -1, 22, 10, 1, -1, 20, 12, 1, -1, 22, 12, 1, -1];
@@ -236,5 +179,5 @@ fn shows_the_same_of_lent_rows(rt: HostRuntime) {
 
 #[test]
 fn ends_where_the_visitor_refuses(rt: HostRuntime) {
-    assert_eq!(rt; is_noted(rt.alloc(), 1, &[20, 10, 1, -1, 0]), Ok(true));
+    assert_eq!(rt; is_noted(rt.alloc(), 1, &[20, 10, 1, -1]), Ok(true));
 }

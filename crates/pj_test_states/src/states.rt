@@ -48,13 +48,25 @@ fn shared(alloc: Global, plain: Plain) -> Result<Shared, NoMemory>
     Shared::new(alloc, Row::of(values))
 }
 
-fn is_row(row: &Row, plain: &Plain) -> bool {
-    match (row.get(0), row.get(1)) {
-        (Some(Value::Int(number)), Some(Value::Text(bytes))) => {
-            *number == plain.number && bytes.as_slice() == [plain.letter].as_slice()
-        }
-        _ => false,
+fn has_number(value: &Value, number: i64) -> bool {
+    match value {
+        Value::Int(there) => *there == number,
+        Value::Text(_) => false,
     }
+}
+
+fn has_letter(value: &Value, letter: u8) -> bool {
+    match value {
+        Value::Int(_) => false,
+        Value::Text(bytes) => bytes.as_slice() == [letter].as_slice(),
+    }
+}
+
+fn is_row(row: &Row, plain: &Plain) -> bool {
+    if row.len() != 2 {
+        return false;
+    }
+    has_number(row.at(0), plain.number) && has_letter(row.at(1), plain.letter)
 }
 
 // Whether the ticket is greater than all that are there.
@@ -84,8 +96,8 @@ fn put(alloc: Global, state: &mut State, plain: Plain) -> Result<bool, NoMemory>
 fn place_in(list: &[Plain], ticket: u64) -> Option<usize>
     ensures { IfSome result (λ at. at < length list.now) }
 {
-    for (at, plain) in list.iter().enumerate() {
-        if plain.ticket == ticket {
+    for at in 0..list.len() {
+        if list[at].ticket == ticket {
             return Some(at);
         }
     }
@@ -267,8 +279,11 @@ fn agrees(alloc: Global, state: &State, list: &[Plain], draw: u64) -> Result<boo
     Ok(is_same(state, list) && is_jumped_through(state, list))
 }
 
-// The least integer of the list from one on, or of all.
-fn next_in(list: &[Plain], from: Option<i64>) -> NextNumber {
+// The least integer of the list from one on, or of all; untold where no order is kept.
+fn next_in(list: &[Plain], from: Option<i64>, is_kept: bool) -> NextNumber {
+    if !is_kept {
+        return NextNumber::Untold;
+    }
     let mut least = NextNumber::Nothing;
     for plain in list {
         if is_from(plain.number, from) && is_less(plain.number, least) {
@@ -292,16 +307,17 @@ fn is_less(number: i64, least: NextNumber) -> bool {
     }
 }
 
-// Whether the state tells the next integer as the list does, where an order is kept, and nothing where none is.
+// Whether the state tells the next integer as the list does.
+fn tells(state: &State, list: &[Plain], is_kept: bool, from: Option<i64>) -> bool
+    requires { state.now.columns ≡ 0 ∷ 1 ∷ [] }
+{
+    state.next_number(0, from) == next_in(list, from, is_kept)
+}
+
 fn tells_next(state: &State, list: &[Plain], is_kept: bool, draw: u64) -> bool
     requires { state.now.columns ≡ 0 ∷ 1 ∷ [] }
 {
-    let from = Some(number(draw));
-    if !is_kept {
-        return state.next_number(0, from) == NextNumber::Untold;
-    }
-    state.next_number(0, from) == next_in(list, from)
-        && state.next_number(0, None) == next_in(list, None)
+    tells(state, list, is_kept, Some(number(draw))) && tells(state, list, is_kept, None)
 }
 
 // Whether each row is the same one where it is looked for near the last.
@@ -344,10 +360,16 @@ fn run(alloc: Global, state: &mut State, list: &mut Vec<Plain>, count: u64) -> R
     Ok(count)
 }
 
-// Whether rows stand in order, and are found and taken out, whose tickets lie far apart.
-fn far(alloc: Global, tickets: &[u64], taken: u64) -> Result<bool, NoMemory> {
-    let mut state = State::new(alloc, &[0, 1])?;
-    let mut list = Vec::new(alloc);
+// Puts a row under each of the tickets into both.
+fn put_all(
+    alloc: Global,
+    state: &mut State,
+    list: &mut Vec<Plain>,
+    tickets: &[u64],
+) -> Result<bool, NoMemory>
+    requires { state.old.columns ≡ 0 ∷ 1 ∷ [] }
+    ensures { state.new.columns ≡ 0 ∷ 1 ∷ [] }
+{
     for ticket in tickets {
         let plain = Plain {
             ticket: *ticket,
@@ -355,11 +377,19 @@ fn far(alloc: Global, tickets: &[u64], taken: u64) -> Result<bool, NoMemory> {
             letter: b'a',
         };
         list.push(plain)?;
-        if !put(alloc, &mut state, plain)? {
+        if !put(alloc, state, plain)? {
             return Ok(false);
         }
     }
-    Ok(pull(&mut state, &mut list, taken) && is_same(&state, list.as_slice()))
+    Ok(true)
+}
+
+// Whether rows stand in order, and are found and taken out, whose tickets lie far apart.
+fn far(alloc: Global, tickets: &[u64], taken: u64) -> Result<bool, NoMemory> {
+    let mut state = State::new(alloc, &[0, 1])?;
+    let mut list = Vec::new(alloc);
+    let is_put = put_all(alloc, &mut state, &mut list, tickets)?;
+    Ok(is_put && pull(&mut state, &mut list, taken) && is_same(&state, list.as_slice()))
 }
 
 fn steps(alloc: Global, count: u64) -> Result<u64, NoMemory> {

@@ -5,7 +5,7 @@ use Rattle.pj_shape.specs.Sound.{FitSchemes}
 use Rattle.pj_shape.specs.Certificates.{IsCertificate}
 use Rattle.pj_test_states.specs.Chain.{chain, chain_schemes, chain_cert}
 use Rattle.pj_test_states.proofs.ChainIs.{chain_certified, chain_fits}
-use Rattle.pj_test_states.proofs.covers.judged.Goals as goal
+use Rattle.pj_test_states.proofs.covers.judged_by.Goals as goal
 
 certified : (spec : JoinSpec) (schemes : List (List (List Bool))) (cert : List CertStep) → spec ≡ chain → schemes ≡ chain_schemes → cert ≡ chain_cert → IsCertificate spec schemes 0 cert
 certified spec schemes cert a b c =
@@ -17,15 +17,15 @@ fitting : (spec : JoinSpec) (schemes : List (List (List Bool))) → spec ≡ cha
 fitting spec schemes a b = subst (λ (s : JoinSpec). FitSchemes s.inputs schemes) (sym a) (subst (λ (l : List (List (List Bool))). FitSchemes chain.inputs l) (sym b) chain_fits)
 
 pub judge_row-said-requires-clause-schemes : goal.judge_row-said-requires-clause-schemes
-judge_row-said-requires-clause-schemes c = fitting c.in_ok-spec.spec c.in_ok-schemes.schemes c.in_ok-spec.ensures c.in_ok-schemes.ensures
+judge_row-said-requires-clause-schemes c = fitting c.args.spec.now c.args.schemes.now c.requires.spec c.requires.schemes
 
 pub ripe-is_ripe-requires-clause-schemes : goal.ripe-is_ripe-requires-clause-schemes
-ripe-is_ripe-requires-clause-schemes c = fitting c.in_ok-spec.spec c.in_ok-schemes.schemes c.in_ok-spec.ensures c.in_ok-schemes.ensures
+ripe-is_ripe-requires-clause-schemes c = fitting c.args.spec.now c.args.schemes.now c.requires.spec c.requires.schemes
 
 pub judge_row-said-requires-clause-certified : goal.judge_row-said-requires-clause-certified
 judge_row-said-requires-clause-certified c =
-    subst (IsCertificate c.in_ok-spec.spec c.in_ok-schemes.schemes 0) (sym c.purge_route-route.ensures.follows)
-    (certified c.in_ok-spec.spec c.in_ok-schemes.schemes c.in_ok-cert.cert c.in_ok-spec.ensures c.in_ok-schemes.ensures c.in_ok-cert.ensures)
+    subst (IsCertificate c.args.spec.now c.args.schemes.now 0) (sym c.purge_route-route.ensures.follows)
+    (certified c.args.spec.now c.args.schemes.now c.args.cert.now c.requires.spec c.requires.schemes c.requires.cert)
 
 pub ripe-is_ripe-requires-clause-certified : goal.ripe-is_ripe-requires-clause-certified
-ripe-is_ripe-requires-clause-certified c = certified c.in_ok-spec.spec c.in_ok-schemes.schemes c.in_ok-cert.cert c.in_ok-spec.ensures c.in_ok-schemes.ensures c.in_ok-cert.ensures
+ripe-is_ripe-requires-clause-certified c = certified c.args.spec.now c.args.schemes.now c.args.cert.now c.requires.spec c.requires.schemes c.requires.cert
