@@ -1,9 +1,8 @@
 // A case: a command over files, and what it writes.
 use pj_engine::{Status, run_words};
-use pj_io::{MemFolder, MemSink, Sink};
+use pj_io::{MemFolder, MemSink};
 use pj_value::NoMemory;
 use std::alloc::Global;
-use std::slice::from_ref;
 
 // The calls that fail: an opening, a read of the file at a place, a write, or both of these, each counted from 0.
 #[derive(Clone, Copy)]
@@ -31,40 +30,60 @@ pub(crate) const A: usize = 2;
 
 pub(crate) const B: usize = 3;
 
-// Reads of all files but the script in pieces.
-pub(crate) const PIECES: [usize; 5] = [100, 100, 7, 1, 100];
-
-// Reads of whole files.
-pub(crate) const WHOLE: [usize; 5] = [65_536; 5];
-
-fn openings(fault: &Fault) -> &[u64] {
-    match fault {
-        Fault::Opening(nth) => from_ref(nth),
-        _ => &[],
+// A command over these files, of which no call fails. All are read in pieces.
+pub(crate) fn case_of<'a>(command: &'a str, files: [&'a [u8]; 5]) -> Case<'a> {
+    Case {
+        command,
+        cuts: [100, 100, 7, 1, 100],
+        files,
+        fault: Fault::Nothing,
     }
 }
 
-fn nth_at(at: usize, nth: &u64, place: usize) -> &[u64] {
-    if at == place { from_ref(nth) } else { &[] }
+// The numbers of the opening that fails, of the read of the file at this place, and of the write.
+#[derive(Clone, Copy)]
+struct Calls {
+    opening: u64,
+    place: usize,
+    read: u64,
+    write: u64,
 }
 
-fn reads(fault: &Fault, place: usize) -> &[u64] {
+// No call has this number.
+const NEVER: u64 = u64::MAX;
+
+const NONE: Calls = Calls {
+    opening: NEVER,
+    place: 0,
+    read: NEVER,
+    write: NEVER,
+};
+
+fn calls_of(fault: Fault) -> Calls {
     match fault {
-        Fault::Read(at, nth) => nth_at(*at, nth, place),
-        Fault::Both {
-            place: at,
+        Fault::Nothing => NONE,
+        Fault::Opening(opening) => Calls { opening, ..NONE },
+        Fault::Read(place, read) => Calls {
+            place,
             read,
-            ..
-        } => nth_at(*at, read, place),
-        _ => &[],
+            ..NONE
+        },
+        Fault::Write(write) => Calls { write, ..NONE },
+        Fault::Both { place, read, write } => Calls {
+            place,
+            read,
+            write,
+            ..NONE
+        },
     }
 }
 
-fn writes(fault: &Fault) -> &[u64] {
-    match fault {
-        Fault::Write(nth) => from_ref(nth),
-        Fault::Both { write, .. } => from_ref(write),
-        _ => &[],
+// The number of the read that fails of the file at a place.
+fn read_at(calls: &Calls, place: usize) -> u64 {
+    if calls.place == place {
+        calls.read
+    } else {
+        NEVER
     }
 }
 
@@ -79,42 +98,33 @@ pub(crate) fn words_of(alloc: Global, command: &str) -> Result<Vec<String>, NoMe
 
 pub(crate) fn folder_of(alloc: Global, case: &Case<'_>) -> Result<MemFolder, NoMemory> {
     let [plan, script, a, b, c] = case.files;
-    let [plan_cut, script_cut, a_cut, b_cut, c_cut] = case.cuts;
-    let fault = &case.fault;
-    let mut folder = MemFolder::new(alloc, openings(fault))?;
-    folder.add(alloc, b"plan", plan, plan_cut.max(1), reads(fault, 0))?;
+    let cuts = case.cuts;
+    let calls = calls_of(case.fault);
+    let mut folder = MemFolder::new(alloc, &[calls.opening])?;
+    folder.add(alloc, b"plan", plan, cuts[0].max(1), &[read_at(&calls, 0)])?;
     folder.add(
         alloc,
         b"script",
         script,
-        script_cut.max(1),
-        reads(fault, SCRIPT),
+        cuts[SCRIPT].max(1),
+        &[read_at(&calls, SCRIPT)],
     )?;
-    folder.add(alloc, b"a", a, a_cut.max(1), reads(fault, A))?;
-    folder.add(alloc, b"b", b, b_cut.max(1), reads(fault, B))?;
-    folder.add(alloc, b"c", c, c_cut.max(1), reads(fault, 4))?;
+    folder.add(alloc, b"a", a, cuts[A].max(1), &[read_at(&calls, A)])?;
+    folder.add(alloc, b"b", b, cuts[B].max(1), &[read_at(&calls, B)])?;
+    folder.add(alloc, b"c", c, cuts[4].max(1), &[read_at(&calls, 4)])?;
     Ok(folder)
 }
 
-// A sink that takes whole pieces.
-fn sink_of(alloc: Global, fault: &Fault) -> Result<MemSink, NoMemory> {
-    let mut out = MemSink::new(alloc, 100_000, writes(fault))?;
-    out.room(200_000)?;
-    Ok(out)
-}
-
-// How the case ends over a sink, with these words.
-pub(crate) fn run_in<K: Sink>(
-    rt: &HostRuntime,
-    words: &[String],
-    case: &Case<'_>,
-    out: &mut K,
-) -> Result<Status, NoMemory> {
+// How these words end over the files of the case, and the sink, which takes whole pieces.
+fn run(rt: &HostRuntime, words: &[String], case: &Case<'_>) -> Result<(Status, MemSink), NoMemory> {
     let mut folder = folder_of(rt.alloc(), case)?;
-    Ok(run_words(rt, words, &mut folder, out))
+    let mut out = MemSink::new(rt.alloc(), 100_000, &[calls_of(case.fault).write])?;
+    out.room(200_000)?;
+    let status = run_words(rt, words, &mut folder, &mut out);
+    Ok((status, out))
 }
 
-// How it ends, where it writes this and then this.
+// How they end, where they write this and then this.
 pub(crate) fn ends_by(
     rt: &HostRuntime,
     words: &[String],
@@ -122,8 +132,7 @@ pub(crate) fn ends_by(
     want: &[u8],
     more: &[u8],
 ) -> Result<Option<Status>, NoMemory> {
-    let mut out = sink_of(rt.alloc(), &case.fault)?;
-    let status = run_in(rt, words, case, &mut out)?;
+    let (status, out) = run(rt, words, case)?;
     if is(out.bytes(), want, more) {
         return Ok(Some(status));
     }
@@ -163,11 +172,32 @@ pub(crate) fn ends_with(
 // The number of how it ends, whatever it writes.
 pub(crate) fn number_of(rt: &HostRuntime, case: &Case<'_>) -> Result<u8, NoMemory> {
     let words = words_of(rt.alloc(), case.command)?;
-    let mut out = sink_of(rt.alloc(), &case.fault)?;
-    Ok(run_in(rt, words.as_slice(), case, &mut out)?.number())
+    let (status, _out) = run(rt, words.as_slice(), case)?;
+    Ok(status.number())
 }
 
 // The first so many of these bytes.
 pub(crate) fn front(bytes: &[u8], count: usize) -> &[u8] {
     bytes.split_at(count.min(bytes.len())).0
+}
+
+// The number of the first of the writes behind whose failure the case does not end with this number, or leaves not as many bytes of
+// this as stand at that place.
+pub(crate) fn wrong_write(
+    rt: &HostRuntime,
+    case: &Case<'_>,
+    number: u8,
+    want: &[u8],
+    lefts: &[usize],
+) -> Result<Option<usize>, NoMemory> {
+    for nth in 0..lefts.len() {
+        let failing = Case {
+            fault: Fault::Write(nth as u64),
+            ..*case
+        };
+        if ends_with(rt, &failing, front(want, lefts[nth]), b"")? != Some(number) {
+            return Ok(Some(nth));
+        }
+    }
+    Ok(None)
 }

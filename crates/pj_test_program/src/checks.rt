@@ -1,17 +1,7 @@
 // The exact bytes of checks, and how they end.
-use crate::cases::{Case, Fault, WHOLE, ends, ends_with, front, number_of};
-use crate::runs::{AUCTION, UNSAFE};
+use crate::cases::{Case, Fault, ends, ends_with, number_of, wrong_write};
+use crate::runs::{AUCTION, UNSAFE, asked};
 use pj_engine::{PlanRisk, Status};
-
-// A command over a folder with this plan.
-fn over<'a>(command: &'a str, plan: &'a [u8], fault: Fault) -> Case<'a> {
-    Case {
-        command,
-        cuts: WHOLE,
-        files: [plan, b"", b"", b"", b""],
-        fault,
-    }
-}
 
 const STUCK_CHECK: &[u8] =
     b"# unsafe join j input a: cannot reach b\n# reached: a\n# partner b t 0 1\n# safe join j input b: a by + _\n";
@@ -43,7 +33,7 @@ fn plans_are_checked_and_printed(rt: HostRuntime) {
         ("check --print plan", SELECT, 0, SELECT_PRINTED),
         ("check plan", SELECT, 0, b""),
     ] {
-        let ended = ends_with(&rt, &over(command, plan, Fault::Nothing), want, b"");
+        let ended = ends_with(&rt, &asked(command, plan), want, b"");
         assert_eq!(rt; ended, Ok(Some(number)), "at {command}");
     }
 }
@@ -64,7 +54,7 @@ fn a_check_tells_every_join(rt: HostRuntime) {
             missing: 1,
         },
     };
-    let case = over("check plan", TWO_STUCK, Fault::Nothing);
+    let case = asked("check plan", TWO_STUCK);
     assert_eq!(rt; ends(&rt, &case, TWO_STUCK_CHECK, b""), Ok(Some(status)));
 }
 
@@ -80,54 +70,29 @@ fn a_plan_that_is_not_had_is_not_checked(rt: HostRuntime) {
         ("check plan", AUCTION, Fault::Read(0, 1), 3, unread),
         ("check nosuch", AUCTION, Fault::Nothing, 3, unopened),
     ] {
-        let ended = ends_with(&rt, &over(command, plan, fault), want, b"");
+        let case = Case {
+            fault,
+            ..asked(command, plan)
+        };
+        let ended = ends_with(&rt, &case, want, b"");
         assert_eq!(rt; ended, Ok(Some(number)), "at {command}");
     }
 }
 
 const STUCK_PRINTED: &[u8] =
-    b"plan 1\nstream a x:int y:int\nscheme a + _\nstream b bx:int bz:int\nscheme b + +\njoin j a b on x=bx\noutput j\n";
+    b"plan 1\nstream a x:int y:int\nscheme a + _\nstream b bx:int bz:int\nscheme b + +\njoin j a b on x=bx\noutput j\n# unsafe join j input a: cannot reach b\n# reached: a\n# partner b t 0 1\n# safe join j input b: a by + _\n";
 
 // The status of an unsafe plan is known before its lines are written, and stays.
 #[test]
 fn each_write_of_a_check_fails_in_turn(rt: HostRuntime) {
-    for (nth, printed, checked) in [
-        (0, 0, 0),
-        (1, 7, 0),
-        (2, 28, 0),
-        (3, 41, 0),
-        (4, 64, 0),
-        (5, 77, 0),
-        (6, 96, 0),
-        (7, 105, 0),
-        (8, 105, 40),
-        (9, 105, 53),
-        (10, 105, 71),
-    ] {
-        let case = over("check --print plan", UNSAFE, Fault::Write(nth));
-        let ended = ends_with(
-            &rt,
-            &case,
-            front(STUCK_PRINTED, printed),
-            front(STUCK_CHECK, checked),
-        );
-        assert_eq!(rt; ended, Ok(Some(2)), "at {nth}");
-    }
-    for (nth, left) in [
-        (0, 0),
-        (1, 7),
-        (2, 41),
-        (3, 58),
-        (4, 90),
-        (5, 106),
-        (6, 138),
-        (7, 147),
-        (8, 186),
-    ] {
-        let case = over("check --print plan", AUCTION, Fault::Write(nth));
-        let ended = ends_with(&rt, &case, front(AUCTION_PRINTED, left), b"");
-        assert_eq!(rt; ended, Ok(Some(4)), "at {nth}");
-    }
+    let stuck = asked("check --print plan", UNSAFE);
+    let lefts = [0, 7, 28, 41, 64, 77, 96, 105, 145, 158, 176];
+    let wrong = wrong_write(&rt, &stuck, 2, STUCK_PRINTED, &lefts);
+    assert_eq!(rt; wrong, Ok(None));
+    let safe = asked("check --print plan", AUCTION);
+    let lefts = [0, 7, 41, 58, 90, 106, 138, 147, 186];
+    let wrong = wrong_write(&rt, &safe, 4, AUCTION_PRINTED, &lefts);
+    assert_eq!(rt; wrong, Ok(None));
 }
 
 #[test]
@@ -144,7 +109,7 @@ fn words_of_a_check(rt: HostRuntime) {
         ("check plan --trace", 64),
         ("check -plan", 64),
     ] {
-        let number_is = number_of(&rt, &over(command, AUCTION, Fault::Nothing));
+        let number_is = number_of(&rt, &asked(command, AUCTION));
         assert_eq!(rt; number_is, Ok(number), "at {command}");
     }
 }

@@ -6,6 +6,8 @@ mod cases;
 #[cfg(test)]
 mod checks;
 #[cfg(test)]
+mod examples;
+#[cfg(test)]
 mod live;
 #[cfg(test)]
 mod made;

@@ -2,7 +2,8 @@
 ghost use Rattle.std.specs.Prelude.{[], false};
 ghost use Rattle.pj_io.specs.MemoryFolders.{folder_of};
 
-use crate::cases::{Case, Fault, folder_of, words_of};
+use crate::cases::{Case, case_of, folder_of, words_of};
+use crate::runs::{ODD, PLAN, over};
 use pj_engine::{Status, run_words};
 use pj_io::{Failed, Folder, MemFolder, MemSource, OpenStop, Sink, Source};
 use pj_value::NoMemory;
@@ -69,7 +70,7 @@ impl<'a> Folder for NotedFolder<'a> {
     }
 }
 
-// Holds all back until it is flushed. The flush of this number, counted from 0, fails.
+// Holds all back until it is flushed. The flush of this number, counted from 0, fails, and so do those behind it.
 #[derive(Drop)]
 struct NotedSink<'a> {
     log: &'a Log,
@@ -88,7 +89,7 @@ impl<'a> Sink for NotedSink<'a> {
     fn flush(&mut self) -> Result<(), Failed> {
         let number = self.log.flushes.get();
         count(&self.log.flushes, 1);
-        if number == self.fails {
+        if number >= self.fails {
             self.faults = self.faults.saturating_add(1);
             return Err(Failed);
         }
@@ -97,33 +98,33 @@ impl<'a> Sink for NotedSink<'a> {
     }
 }
 
-const PLAN: &[u8] = b"plan 1\nstream s k:int v:text\noutput s\n";
-
 // By 12 bytes a read: behind the first tuple a line that is rejected is held, behind the second a comment, behind the third none.
 const FILE: &[u8] = b"t 1 \"a\"\nx 2\nt 2 \"b\"\n# c\nt 3 \"c\"\n";
 
 const PAIR: &[u8] =
     b"plan 1\nstream a k:int\nstream b l:int\nscheme a +\nscheme b +\njoin j a b on k=l\noutput j\n";
 
-fn new_log() -> Log {
-    Log {
+// How the case ends, where the flush of this number and those behind it fail, and how many flushes, reads, and reads with something
+// held back there were.
+fn noted(
+    rt: &HostRuntime,
+    case: &Case<'_>,
+    fails: u64,
+) -> Result<(Status, u64, u64, u64), NoMemory> {
+    let log = Log {
         held: Cell::new(0),
         flushes: Cell::new(0),
         reads: Cell::new(0),
         late: Cell::new(0),
-    }
+    };
+    let status = ends(rt, case, fails, &log)?;
+    Ok((status, log.flushes.get(), log.reads.get(), log.late.get()))
 }
 
-// How the command ends over these files, where the flush of this number fails.
-fn ends(
-    rt: &HostRuntime,
-    command: &str,
-    folder: MemFolder,
-    fails: u64,
-    log: &Log,
-) -> Result<Status, NoMemory> {
-    let words = words_of(rt.alloc(), command)?;
-    let mut folder = NotedFolder { inner: folder, log };
+fn ends(rt: &HostRuntime, case: &Case<'_>, fails: u64, log: &Log) -> Result<Status, NoMemory> {
+    let words = words_of(rt.alloc(), case.command)?;
+    let inner = folder_of(rt.alloc(), case)?;
+    let mut folder = NotedFolder { inner, log };
     let mut out = NotedSink {
         log,
         fails,
@@ -132,54 +133,54 @@ fn ends(
     Ok(run_words(rt, words.as_slice(), &mut folder, &mut out))
 }
 
-// How the run over the file ends, by reads of so many bytes, and how many flushes, reads of the file, and reads with something held
-// back there were.
-fn hands_on(rt: &HostRuntime, cut: usize, fails: u64) -> Result<(Status, u64, u64, u64), NoMemory> {
-    let case = Case {
-        command: "run plan a",
-        cuts: [65_536, 65_536, cut, 65_536, 65_536],
-        files: [PLAN, b"", FILE, b"", b""],
-        fault: Fault::Nothing,
-    };
-    let log = new_log();
-    let status = ends(rt, case.command, folder_of(rt.alloc(), &case)?, fails, &log)?;
-    // The plan's file has two reads.
-    let reads = log.reads.get().saturating_sub(2);
-    Ok((status, log.flushes.get(), reads, log.late.get()))
-}
-
-// A flush comes before the read, not for each line, and before the report's end.
+// A flush comes before the read, not for each line, and before the report's end. The plan's file has two reads.
 #[test]
 fn lines_are_handed_on_before_a_read(rt: HostRuntime) {
-    for (cut, flushes, reads) in [(4096, 3, 2), (12, 5, 4), (8, 6, 5), (1, 6, 33)] {
+    for (cut, flushes, reads) in [(4096, 3, 4), (12, 5, 6), (8, 6, 7), (1, 6, 35)] {
         let want = (Status::Done, flushes, reads, 0);
-        assert_eq!(rt; hands_on(&rt, cut, 99), Ok(want), "at {cut}");
+        let ended = noted(&rt, &over(PLAN, FILE, cut), 99);
+        assert_eq!(rt; ended, Ok(want), "at {cut}");
     }
 }
 
 #[test]
 fn each_flush_fails_in_turn(rt: HostRuntime) {
-    for (nth, flushes, reads) in [(0, 1, 0), (1, 2, 1), (2, 3, 2), (3, 4, 3), (4, 5, 4)] {
+    for (nth, flushes, reads) in [(0, 1, 2), (1, 2, 3), (2, 3, 4), (3, 4, 5), (4, 5, 6)] {
         let want = (Status::WriteFault, flushes, reads, 0);
-        assert_eq!(rt; hands_on(&rt, 12, nth), Ok(want), "at {nth}");
+        let ended = noted(&rt, &over(PLAN, FILE, 12), nth);
+        assert_eq!(rt; ended, Ok(want), "at {nth}");
     }
 }
 
-// How the run over two streams ends, and how many reads with something held back there were.
-fn streams_wait(rt: &HostRuntime) -> Result<(Status, u64), NoMemory> {
-    let case = Case {
-        command: "run plan a b",
-        cuts: [65_536, 65_536, 4, 6, 65_536],
-        files: [PAIR, b"", b"t 1\nt 2\nt 1\n", b"t 1\nx\nt 2\nt 1\n", b""],
-        fault: Fault::Nothing,
-    };
-    let log = new_log();
-    let status = ends(rt, case.command, folder_of(rt.alloc(), &case)?, 99, &log)?;
-    Ok((status, log.late.get()))
+// A run hands on before it reads its file. The plan's file has two reads.
+#[test]
+fn a_status_line_is_handed_on_too(rt: HostRuntime) {
+    for (command, status, reads) in [
+        ("run plan a", Status::WriteFault, 2),
+        ("run", Status::Usage, 0),
+    ] {
+        let case = Case {
+            command,
+            ..over(PLAN, ODD, 100)
+        };
+        assert_eq!(rt;
+            noted(&rt, &case, 0),
+            Ok((status, 1, reads, 0)),
+            "at {command}"
+        );
+    }
 }
 
 // What one stream's element brought is handed on before the other stream's file is read.
 #[test]
 fn streams_wait_for_each_other_with_nothing_held_back(rt: HostRuntime) {
-    assert_eq!(rt; streams_wait(&rt), Ok((Status::Done, 0)));
+    let case = Case {
+        cuts: [65_536, 65_536, 4, 6, 65_536],
+        ..case_of(
+            "run plan a b",
+            [PAIR, b"", b"t 1\nt 2\nt 1\n", b"t 1\nx\nt 2\nt 1\n", b""],
+        )
+    };
+    let ended = noted(&rt, &case, 99);
+    assert!(rt; matches!(ended, Ok((Status::Done, _, _, 0))));
 }

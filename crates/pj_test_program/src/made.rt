@@ -1,17 +1,7 @@
 // The exact bytes of made inputs, run and summed up, and how they end.
-use crate::cases::{Case, Fault, WHOLE, ends, ends_with, front, number_of};
-use crate::runs::AUCTION;
+use crate::cases::{ends, number_of, wrong_write};
+use crate::runs::{AUCTION, asked};
 use pj_engine::Status;
-
-// A command over a folder with a plan, of which it has no need.
-fn over(command: &str, fault: Fault) -> Case<'_> {
-    Case {
-        command,
-        cuts: WHOLE,
-        files: [AUCTION, b"", b"", b"", b""],
-        fault,
-    }
-}
 
 const ONE: &[u8] =
     b"# make 7 1\n# stream items tuples 2 punctuations 1 rejected 0\n# stream bids tuples 2 punctuations 1 rejected 0\n# results 1 punctuations 3\n# peak j 4\n# total 807\n";
@@ -23,22 +13,16 @@ const THOUSAND: &[u8] =
 #[test]
 fn made_inputs_are_run_and_summed_up(rt: HostRuntime) {
     for (command, want) in [("make 7 1", ONE), ("make 7 1000", THOUSAND)] {
-        let ended = ends(&rt, &over(command, Fault::Nothing), want, b"");
+        let ended = ends(&rt, &asked(command, AUCTION), want, b"");
         assert_eq!(rt; ended, Ok(Some(Status::Done)), "at {command}");
     }
 }
 
 #[test]
 fn each_write_of_a_made_run_fails_in_turn(rt: HostRuntime) {
-    for (nth, left) in [(0, 0), (1, 11), (2, 61), (3, 110), (4, 137), (5, 148)] {
-        let ended = ends_with(
-            &rt,
-            &over("make 7 1", Fault::Write(nth)),
-            front(ONE, left),
-            b"",
-        );
-        assert_eq!(rt; ended, Ok(Some(4)), "at {nth}");
-    }
+    let case = asked("make 7 1", AUCTION);
+    let wrong = wrong_write(&rt, &case, 4, ONE, &[0, 11, 61, 110, 137, 148]);
+    assert_eq!(rt; wrong, Ok(None));
 }
 
 #[test]
@@ -56,7 +40,7 @@ fn words_of_a_make(rt: HostRuntime) {
         ("make -7 1", 64),
         ("make seven 1", 64),
     ] {
-        let number_is = number_of(&rt, &over(command, Fault::Nothing));
+        let number_is = number_of(&rt, &asked(command, AUCTION));
         assert_eq!(rt; number_is, Ok(number), "at {command}");
     }
 }

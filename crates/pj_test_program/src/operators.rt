@@ -1,5 +1,6 @@
 // The exact bytes of runs of every operator, and what a check counts of them.
-use crate::cases::{Case, Fault, PIECES, ends};
+use crate::cases::{case_of, ends};
+use crate::examples::ORDERS_PLAN;
 use pj_engine::Status;
 use pj_value::NoMemory;
 
@@ -16,19 +17,10 @@ fn runs_and_checks<'a>(
     check: &[u8],
 ) -> Result<bool, NoMemory> {
     let [command, checking] = commands;
-    let plainly = case_of(command, plan, files);
-    let checked = case_of(checking, plan, files);
-    Ok(ends(rt, &plainly, want, b"")? == DONE && ends(rt, &checked, want, check)? == DONE)
-}
-
-fn case_of<'a>(command: &'a str, plan: &'a [u8], files: [&'a [u8]; 3]) -> Case<'a> {
     let [a, b, c] = files;
-    Case {
-        command,
-        cuts: PIECES,
-        files: [plan, b"", a, b, c],
-        fault: Fault::Nothing,
-    }
+    let plainly = case_of(command, [plan, b"", a, b, c]);
+    let checked = case_of(checking, [plan, b"", a, b, c]);
+    Ok(ends(rt, &plainly, want, b"")? == DONE && ends(rt, &checked, want, check)? == DONE)
 }
 
 #[test]
@@ -98,7 +90,7 @@ fn trees_of_operators_run(rt: HostRuntime) {
         ),
         (
             "a join below a group",
-            b"plan 1\n# orders paid and shipped\nstream orders oid:int cust:text\nstream pays poid:int amount:int\nstream ships soid:int depot:text\nscheme orders + _\nscheme pays + _\nscheme ships + _\nselect big pays where amount [10..]\njoin j orders big ships on oid=poid=soid\nproject p j oid cust amount\ngroup g p by oid cust of paid=sum:amount\noutput g\n",
+            ORDERS_PLAN,
             [
                 b"t 1 \"ann\"\np 1 *\nt 2 \"bob\"\np 2 *\n",
                 b"t 1 40\nt 1 5\nt 1 60\np 1 *\n",

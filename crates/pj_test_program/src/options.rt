@@ -1,20 +1,9 @@
 // What the options of a run change, and which words ask for a run.
-use crate::cases::{A, Case, Fault, PIECES, ends, ends_with, front, number_of};
-use crate::runs::AUCTION;
+use crate::cases::{A, Case, Fault, case_of, ends, ends_with, front, number_of};
+use crate::runs::auction;
 use pj_engine::Status;
-use pj_value::NoMemory;
 
 const USAGE_STATUS: u8 = 64;
-
-// A command over the auction and these files.
-fn auction<'a>(command: &'a str, items: &'a [u8], bids: &'a [u8]) -> Case<'a> {
-    Case {
-        command,
-        cuts: PIECES,
-        files: [AUCTION, b"", items, bids, b""],
-        fault: Fault::Nothing,
-    }
-}
 
 const TWO_ITEMS: &[u8] = b"t 1 \"ann\"\nt 2 \"bob\"\n";
 
@@ -217,33 +206,24 @@ fn a_stop_stands_before_a_write_that_fails_behind_it(rt: HostRuntime) {
     ] {
         // The first stream's file is `script`.
         let case = Case {
-            command: "run plan script a b c --limit 5",
-            cuts: [400, 100, 100, 100, 100],
-            files: [
-                TOWER,
-                b"t 7\nt 7\n",
-                b"t 8\nt 8\n",
-                ITEMS,
-                b"t 9 50\np 1 *\n",
-            ],
             fault,
+            ..case_of(
+                "run plan script a b c --limit 5",
+                [
+                    TOWER,
+                    b"t 7\nt 7\n",
+                    b"t 8\nt 8\n",
+                    ITEMS,
+                    b"t 9 50\np 1 *\n",
+                ],
+            )
         };
         let ended = ends_with(&rt, &case, front(TOWER_OUT, left), b"");
         assert_eq!(rt; ended, Ok(Some(6)), "at {left}");
     }
 }
 
-// The number of how a command ends where none of its files holds anything.
-fn number_over_nothing(rt: &HostRuntime, command: &str) -> Result<u8, NoMemory> {
-    number_of(
-        rt,
-        &Case {
-            files: [b""; 5],
-            ..auction(command, b"", b"")
-        },
-    )
-}
-
+// None of the files holds anything.
 #[test]
 fn words_of_a_run_are_taken(rt: HostRuntime) {
     for command in [
@@ -282,7 +262,7 @@ fn words_of_a_run_are_taken(rt: HostRuntime) {
         "run --check --trace p f",
         "run p --check f g",
     ] {
-        let number = number_over_nothing(&rt, command);
+        let number = number_of(&rt, &case_of(command, [b""; 5]));
         assert!(rt;
             number.is_ok() && number != Ok(USAGE_STATUS),
             "at {command}"
@@ -327,10 +307,7 @@ fn other_words_are_no_run(rt: HostRuntime) {
         "RUN p f",
         "run  f",
     ] {
-        assert_eq!(rt;
-            number_over_nothing(&rt, command),
-            Ok(USAGE_STATUS),
-            "at {command}"
-        );
+        let number = number_of(&rt, &case_of(command, [b""; 5]));
+        assert_eq!(rt; number, Ok(USAGE_STATUS), "at {command}");
     }
 }

@@ -1,18 +1,10 @@
 // The exact bytes of replays, whatever interleaving their scripts list, and how they end.
-use crate::cases::{B, Case, Fault, SCRIPT, ends, ends_with, front, number_of};
+use crate::cases::{
+    B, Case, Fault, SCRIPT, case_of, ends, ends_with, front, number_of, wrong_write,
+};
 use crate::runs::{AUCTION, UNSAFE, padded};
 use pj_engine::{LimitOf, Status};
 use pj_value::NoMemory;
-
-// A command over these files, the plan and the script first.
-fn over<'a>(command: &'a str, files: [&'a [u8]; 5]) -> Case<'a> {
-    Case {
-        command,
-        cuts: [65_536, 65_536, 7, 1, 100],
-        files,
-        fault: Fault::Nothing,
-    }
-}
 
 // ---- what is written
 
@@ -57,13 +49,13 @@ fn a_late_sweep_of_a_chain_removes_what_an_early_one_left(rt: HostRuntime) {
         b"t 1 10\nt 1 20\np 1 *\n",
         b"p 10\np 20\n",
     ];
-    let case = over("replay plan script a b c --trace", files);
+    let case = case_of("replay plan script a b c --trace", files);
     assert_eq!(rt; ends(&rt, &case, CHAIN_OUT, b""), Ok(Some(Status::Done)));
 }
 
 #[test]
 fn sweeps_below_the_low_water_ticket_alone_remove_rows(rt: HostRuntime) {
-    let case = over(
+    let case = case_of(
         "replay plan script a b --trace",
         [AUCTION, LOW_SCRIPT, ITEM, BID, b""],
     );
@@ -77,7 +69,7 @@ fn probes_are_given_out_of_order(rt: HostRuntime) {
         "replay plan script a b --limit 5",
         "replay plan --limit=1099511627776 script a b",
     ] {
-        let case = over(command, [AUCTION, TURNED_SCRIPT, OPEN_ITEM, TWO_BIDS, b""]);
+        let case = case_of(command, [AUCTION, TURNED_SCRIPT, OPEN_ITEM, TWO_BIDS, b""]);
         assert_eq!(rt;
             ends(&rt, &case, TURNED_OUT, b""),
             Ok(Some(Status::Done)),
@@ -102,7 +94,7 @@ fn drains_change_no_bytes_and_probes_under_way_are_given(rt: HostRuntime) {
         ("drained", DRAINED_SCRIPT, TURNED_OUT),
         ("under way", UNDER_WAY_SCRIPT, IN_ORDER_OUT),
     ] {
-        let case = over(
+        let case = case_of(
             "replay plan script a b",
             [AUCTION, script, OPEN_ITEM, TWO_BIDS, b""],
         );
@@ -130,7 +122,7 @@ fn a_script_without_steps_gives_the_run(rt: HostRuntime) {
     ] {
         let files = [AUCTION, script.as_bytes(), ITEM, CLOSED_BIDS, b""];
         for command in ["run plan a b", "replay plan script a b"] {
-            let ended = ends(&rt, &over(command, files), RUN_OUT, b"");
+            let ended = ends(&rt, &case_of(command, files), RUN_OUT, b"");
             assert_eq!(rt; ended, Ok(Some(Status::Done)), "at {command} of {script}");
         }
     }
@@ -163,7 +155,7 @@ fn a_line_that_is_no_step_is_refused_before_the_run(rt: HostRuntime) {
         let files = [AUCTION, script, OPEN_ITEM, TWO_BIDS, b""];
         // The streams' files are not opened.
         for command in ["replay plan script a b", "replay plan script nosuch nosuch"] {
-            let ended = ends(&rt, &over(command, files), want, b"");
+            let ended = ends(&rt, &case_of(command, files), want, b"");
             assert_eq!(rt;
                 ended,
                 Ok(Some(Status::ScriptRefused { line })),
@@ -210,7 +202,7 @@ fn a_step_that_is_not_enabled_is_refused_behind_what_came(rt: HostRuntime) {
             b"p * * * *\n# refused script line 2\n",
         ),
     ] {
-        let case = over(
+        let case = case_of(
             "replay plan script a b",
             [AUCTION, script, items, TWO_BIDS, b""],
         );
@@ -228,7 +220,11 @@ fn padded_script_ends(
 ) -> Result<Option<Status>, NoMemory> {
     let script = padded(rt.alloc(), step, size)?;
     let files = [AUCTION, script.as_slice(), ITEM, CLOSED_BIDS, b""];
-    ends(rt, &over("replay plan script a b", files), want, b"")
+    let case = Case {
+        cuts: [65_536; 5],
+        ..case_of("replay plan script a b", files)
+    };
+    ends(rt, &case, want, b"")
 }
 
 #[test]
@@ -247,10 +243,12 @@ fn a_script_of_more_bytes_than_may_be_is_refused(rt: HostRuntime) {
 // A replay over the auction of which a call fails.
 fn failing<'a>(script: &'a [u8], fault: Fault) -> Case<'a> {
     Case {
-        command: "replay plan script a b",
         cuts: [65_536, 10, 65_536, 7, 65_536],
-        files: [AUCTION, script, OPEN_ITEM, b"t 1 50\np 9 *\n", b""],
         fault,
+        ..case_of(
+            "replay plan script a b",
+            [AUCTION, script, OPEN_ITEM, b"t 1 50\np 9 *\n", b""],
+        )
     }
 }
 
@@ -299,32 +297,14 @@ fn a_read_behind_the_last_step_fails(rt: HostRuntime) {
     }
 }
 
-// The numbers of writes that fail, and how many bytes were written before.
 #[test]
 fn each_write_of_a_replay_fails_in_turn(rt: HostRuntime) {
-    for (nth, left) in [
-        (0, 0),
-        (1, 15),
-        (2, 41),
-        (3, 51),
-        (4, 73),
-        (5, 83),
-        (6, 93),
-        (7, 103),
-        (8, 153),
-        (9, 202),
-        (10, 229),
-    ] {
-        let case = Case {
-            fault: Fault::Write(nth),
-            ..over(
-                "replay plan script a b --trace",
-                [AUCTION, LOW_SCRIPT, ITEM, BID, b""],
-            )
-        };
-        let ended = ends(&rt, &case, front(LOW_OUT, left), b"");
-        assert_eq!(rt; ended, Ok(Some(Status::WriteFault)), "at {nth}");
-    }
+    let case = case_of(
+        "replay plan script a b --trace",
+        [AUCTION, LOW_SCRIPT, ITEM, BID, b""],
+    );
+    let lefts = [0, 15, 41, 51, 73, 83, 93, 103, 153, 202, 229];
+    assert_eq!(rt; wrong_write(&rt, &case, 4, LOW_OUT, &lefts), Ok(None));
 }
 
 // The last step, on line 6, is not enabled.
@@ -336,7 +316,7 @@ const REFUSED_OUT: &[u8] = b"t 1 \"ann\" 1 50\n# refused script line 6\n";
 fn refused_ends(rt: &HostRuntime, nth: u64, left: usize) -> Result<Option<Status>, NoMemory> {
     let case = Case {
         fault: Fault::Write(nth),
-        ..over(
+        ..case_of(
             "replay plan script a b",
             [AUCTION, REFUSED_SCRIPT, OPEN_ITEM, TWO_BIDS, b""],
         )
@@ -434,7 +414,7 @@ fn a_limit_is_met_at_a_step_and_behind_the_last(rt: HostRuntime) {
         let status = Status::Limit {
             what: LimitOf::Node(node),
         };
-        let ended = ends(&rt, &over(command, files), want, b"");
+        let ended = ends(&rt, &case_of(command, files), want, b"");
         assert_eq!(rt; ended, Ok(Some(status)), "at {command}");
     }
 }
@@ -490,7 +470,7 @@ fn refusals_come_in_their_order(rt: HostRuntime) {
     ] {
         let ended = ends_with(
             &rt,
-            &over(command, [plan, b"walk", b"", b"", b""]),
+            &case_of(command, [plan, b"walk", b"", b"", b""]),
             want,
             b"",
         );
@@ -519,7 +499,7 @@ fn words_of_a_replay(rt: HostRuntime) {
         ("replay plan script a b --print", 64),
         ("replay plan -script a b", 64),
     ] {
-        let case = over(command, [AUCTION, b"drain\n", b"", b"", b""]);
+        let case = case_of(command, [AUCTION, b"drain\n", b"", b"", b""]);
         assert_eq!(rt; number_of(&rt, &case), Ok(number), "at {command}");
     }
 }

@@ -1,18 +1,14 @@
 // What no clause says: the exact bytes of worked files, whatever the pieces of the reads, and every failure in turn.
-ghost use Rattle.std.specs.Prelude.{[], false};
-
-use crate::cases::{
-    A, B, Case, Fault, PIECES, WHOLE, ends, ends_by, ends_with, folder_of, front, run_in, words_of,
-};
+use crate::cases::{A, B, Case, Fault, case_of, ends, ends_by, ends_with, front, wrong_write};
+use crate::examples::EXAMPLES;
 use pj_engine::{LimitOf, Status};
-use pj_io::{Failed, Sink};
 use pj_value::{List, NoMemory};
 use std::alloc::Global;
 
-const PLAN: &[u8] = b"plan 1\nstream s k:int v:text\noutput s\n";
+pub(crate) const PLAN: &[u8] = b"plan 1\nstream s k:int v:text\noutput s\n";
 
 // Elements, skipped lines and rejects, carriage returns, bytes that are no UTF-8, and a last line without a line feed.
-const ODD: &[u8] =
+pub(crate) const ODD: &[u8] =
     b"t 1 \"a\"\r\n\n \t\n# note\nx 1 \"a\"\nt 1\np 7 *\nt 7 \"\xff\\x41\"\n\tt  8\t\"\xff\\x41\"  \nt \"a\" 1\nt 9 \"a\np 7 \"b\nt * \"c\"\np \"a\" *\nt 2 \"\\r\"\r\np * \"z\"";
 
 const ODD_OUT: &[u8] =
@@ -69,12 +65,10 @@ pub(crate) const UNSAFE: &[u8] =
 const STOPPED: &[u8] = b"# stopped read fault operand 2\n";
 
 // A run over a plan and one file, by reads of so many bytes of it.
-fn over<'a>(plan: &'a [u8], file: &'a [u8], cut: usize) -> Case<'a> {
+pub(crate) fn over<'a>(plan: &'a [u8], file: &'a [u8], cut: usize) -> Case<'a> {
     Case {
-        command: "run plan a",
         cuts: [65_536, 65_536, cut, 65_536, 65_536],
-        files: [plan, b"", file, b"", b""],
-        fault: Fault::Nothing,
+        ..case_of("run plan a", [plan, b"", file, b"", b""])
     }
 }
 
@@ -99,6 +93,14 @@ fn worked_files_in_any_pieces(rt: HostRuntime) {
         ("nothing", b"", NOTHING_OUT),
     ] {
         assert_eq!(rt; wrong_pieces(&rt, file, want), Ok(None), "at {name}");
+    }
+}
+
+#[test]
+fn examples_write_what_stands_beside_them(rt: HostRuntime) {
+    for (example, command, files, number, want) in EXAMPLES {
+        let ended = ends_with(&rt, &case_of(command, files), want, b"");
+        assert_eq!(rt; ended, Ok(Some(number)), "at {example}: {command}");
     }
 }
 
@@ -140,14 +142,9 @@ fn lines_of_the_greatest_length_and_longer(rt: HostRuntime) {
     assert_eq!(rt; long_lines_end(&rt), Ok(Some(Status::Done)));
 }
 
-// A run of the auction over these files.
-fn auction<'a>(items: &'a [u8], bids: &'a [u8]) -> Case<'a> {
-    Case {
-        command: "run plan a b",
-        cuts: PIECES,
-        files: [AUCTION, b"", items, bids, b""],
-        fault: Fault::Nothing,
-    }
+// A command over the auction and these files.
+pub(crate) fn auction<'a>(command: &'a str, items: &'a [u8], bids: &'a [u8]) -> Case<'a> {
+    case_of(command, [AUCTION, b"", items, bids, b""])
 }
 
 #[test]
@@ -187,53 +184,37 @@ fn two_streams_are_joined(rt: HostRuntime) {
         ),
     ] {
         assert_eq!(rt;
-            ends(&rt, &auction(items, bids), want, b""),
+            ends(&rt, &auction("run plan a b", items, bids), want, b""),
             Ok(Some(Status::Done)),
             "at {name}"
         );
     }
 }
 
-// The numbers of writes that fail, and how many bytes were written before.
 #[test]
 fn each_write_of_a_join_fails_in_turn(rt: HostRuntime) {
-    for (nth, left) in [
-        (0, 0),
-        (1, 15),
-        (2, 25),
-        (3, 35),
-        (4, 45),
-        (5, 55),
-        (6, 105),
-        (7, 154),
-        (8, 192),
-        (9, 219),
-    ] {
-        let case = Case {
-            cuts: [100; 5],
-            fault: Fault::Write(nth),
-            ..auction(b"t 1 \"ann\"\np 1 *\n", b"t 1 50\np 1 *\nt 1 60\n")
-        };
-        let ended = ends(&rt, &case, front(AUCTION_OUT, left), b"");
-        assert_eq!(rt; ended, Ok(Some(Status::WriteFault)), "at {nth}");
-    }
+    let case = auction(
+        "run plan a b",
+        b"t 1 \"ann\"\np 1 *\n",
+        b"t 1 50\np 1 *\nt 1 60\n",
+    );
+    let lefts = [0, 15, 25, 35, 45, 55, 105, 154, 192, 219];
+    assert_eq!(rt; wrong_write(&rt, &case, 4, AUCTION_OUT, &lefts), Ok(None));
 }
 
 // The third tuples of `a` and of `c` each complete a row, and `a` has its turn first.
 #[test]
 fn three_streams_are_joined(rt: HostRuntime) {
-    let case = Case {
-        command: "run plan a b c",
-        cuts: PIECES,
-        files: [
+    let case = case_of(
+        "run plan a b c",
+        [
             THREE,
             b"",
             b"t 2 \"z\"\nt 3 \"w\"\nt 1 \"x\"\n",
             b"t 2 6\nt 1 5\nt 3 7\n",
             b"t 10 1\nt 30 4\nt 20 2\n",
         ],
-        fault: Fault::Nothing,
-    };
+    );
     assert_eq!(rt; ends(&rt, &case, THREE_OUT, b""), Ok(Some(Status::Done)));
 }
 
@@ -316,7 +297,7 @@ fn each_file_that_fails_is_named(rt: HostRuntime) {
         let case = Case {
             cuts: [65_536, 65_536, 65_536, 7, 65_536],
             fault,
-            ..auction(b"t 1 \"ann\"\n", b"t 1 50\np 9 *\n")
+            ..auction("run plan a b", b"t 1 \"ann\"\n", b"t 1 50\np 9 *\n")
         };
         assert_eq!(rt; ends(&rt, &case, want, b""), Ok(Some(status)));
     }
@@ -334,102 +315,34 @@ fn a_missing_file_is_named(rt: HostRuntime) {
         ("run plan nosuch a", 2, b"# stopped open fault operand 2\n"),
         ("run nosuch a a", 1, b"# stopped open fault operand 1\n"),
     ] {
-        let case = Case {
-            command,
-            cuts: [100; 5],
-            ..auction(b"t 1 \"ann\"\n", b"")
-        };
+        let ended = ends(&rt, &auction(command, b"t 1 \"ann\"\n", b""), want, b"");
         let status = Status::OpenFault { operand };
-        assert_eq!(rt;
-            ends(&rt, &case, want, b""),
-            Ok(Some(status)),
-            "at {command}"
-        );
+        assert_eq!(rt; ended, Ok(Some(status)), "at {command}");
     }
 }
 
 // There are 16 writes.
 #[test]
 fn each_write_fails_in_turn(rt: HostRuntime) {
-    for (nth, left, status) in [
-        (0, 0, Status::WriteFault),
-        (1, 8, Status::WriteFault),
-        (2, 14, Status::WriteFault),
-        (3, 23, Status::WriteFault),
-        (4, 32, Status::WriteFault),
-        (5, 40, Status::WriteFault),
-        (6, 46, Status::WriteFault),
-        (7, 92, Status::WriteFault),
-        (8, 125, Status::WriteFault),
-        (9, 162, Status::WriteFault),
-        (10, 197, Status::WriteFault),
-        (11, 229, Status::WriteFault),
-        (12, 263, Status::WriteFault),
-        (13, 297, Status::WriteFault),
-        (14, 327, Status::WriteFault),
-        (15, 359, Status::WriteFault),
-        (16, 386, Status::Done),
-    ] {
-        let case = Case {
-            fault: Fault::Write(nth),
-            ..over(PLAN, ODD, 4096)
-        };
-        assert_eq!(rt;
-            ends(&rt, &case, front(ODD_OUT, left), b""),
-            Ok(Some(status)),
-            "at {nth}"
-        );
-    }
+    let lefts = [
+        0, 8, 14, 23, 32, 40, 46, 92, 125, 162, 197, 229, 263, 297, 327, 359,
+    ];
+    let wrong = wrong_write(&rt, &over(PLAN, ODD, 4096), 4, ODD_OUT, &lefts);
+    assert_eq!(rt; wrong, Ok(None));
+    let case = Case {
+        fault: Fault::Write(16),
+        ..over(PLAN, ODD, 4096)
+    };
+    assert_eq!(rt; ends(&rt, &case, ODD_OUT, b""), Ok(Some(Status::Done)));
     assert_eq!(rt; ODD_OUT.len(), 386);
-}
-
-// Holds all back, and can't hand it on.
-#[derive(Drop)]
-struct Stuck {
-    faults: u64,
-}
-
-impl Sink for Stuck {
-    ghost state = { λ s. record { told = false; written = []; faults = s.faults; held = [] } };
-
-    fn write(&mut self, piece: &[u8]) -> Result<usize, Failed> {
-        Ok(piece.len())
-    }
-
-    fn flush(&mut self) -> Result<(), Failed> {
-        self.faults = self.faults.saturating_add(1);
-        Err(Failed)
-    }
-}
-
-// How a command over the file ends there, and how often flushes have failed then.
-fn ends_stuck(rt: &HostRuntime, command: &str, out: &mut Stuck) -> Result<(Status, u64), NoMemory> {
-    let words = words_of(rt.alloc(), command)?;
-    let status = run_in(rt, words.as_slice(), &over(PLAN, ODD, 100), out)?;
-    Ok((status, out.faults))
-}
-
-#[test]
-fn a_status_line_is_handed_on_too(rt: HostRuntime) {
-    let mut out = Stuck { faults: 0 };
-    assert_eq!(rt;
-        ends_stuck(&rt, "run plan a", &mut out),
-        Ok((Status::WriteFault, 1))
-    );
-    assert_eq!(rt; ends_stuck(&rt, "run", &mut out), Ok((Status::Usage, 2)));
 }
 
 const USAGE: &[u8] =
     b"# usage: run PLAN FILE.. | replay PLAN SCRIPT FILE.. | check PLAN | make SEED N\n";
 
-// A command over a plan, where the file `a` is there.
-fn asked<'a>(command: &'a str, plan: &'a [u8]) -> Case<'a> {
-    Case {
-        command,
-        cuts: WHOLE,
-        files: [plan, b"", ODD, b"", b""],
-        fault: Fault::Nothing,
-    }
+// A command over a plan and a file `a`.
+pub(crate) fn asked<'a>(command: &'a str, plan: &'a [u8]) -> Case<'a> {
+    case_of(command, [plan, b"", ODD, b"", b""])
 }
 
 #[test]
@@ -612,44 +525,38 @@ fn a_plan_of_more_bytes_than_may_be_is_refused(rt: HostRuntime) {
     assert_eq!(rt; ended, Ok(Some(status)));
 }
 
-// The name of a node by its number: `naa` is the first.
-fn append_name(node: usize, plan: &mut List<u8>) -> Result<(), NoMemory> {
-    let letters = b"abcdefghijklmnop";
-    plan.push(b'n')?;
-    plan.push(letters[node / 16 % 16])?;
-    plan.push(letters[node % 16])
-}
-
 // Four streams, three unions of them, and then a chain of selects, of which each asks for its own name and those behind it.
-// `0` stands for the node's name, `1` and `4` for those of the nodes so many before it.
-fn statement(node: usize) -> &'static [u8] {
-    if node >= 7 {
-        b"select 0 1 where v [\"0\"..]\n"
-    } else if node >= 4 {
-        b"union 0 1 4\n"
-    } else {
-        b"stream 0 v:text\n"
-    }
-}
+#[rattlefmt::skip]
+const NODES: [&[u8]; 64] = [
+    b"stream naa v:text\n", b"stream nab v:text\n", b"stream nac v:text\n", b"stream nad v:text\n", b"union nae nad naa\n",
+    b"union naf nae nab\n", b"union nag naf nac\n", b"select nah nag where v [\"nah\"..]\n", b"select nai nah where v [\"nai\"..]\n",
+    b"select naj nai where v [\"naj\"..]\n", b"select nak naj where v [\"nak\"..]\n", b"select nal nak where v [\"nal\"..]\n",
+    b"select nam nal where v [\"nam\"..]\n", b"select nan nam where v [\"nan\"..]\n", b"select nao nan where v [\"nao\"..]\n",
+    b"select nap nao where v [\"nap\"..]\n", b"select nba nap where v [\"nba\"..]\n", b"select nbb nba where v [\"nbb\"..]\n",
+    b"select nbc nbb where v [\"nbc\"..]\n", b"select nbd nbc where v [\"nbd\"..]\n", b"select nbe nbd where v [\"nbe\"..]\n",
+    b"select nbf nbe where v [\"nbf\"..]\n", b"select nbg nbf where v [\"nbg\"..]\n", b"select nbh nbg where v [\"nbh\"..]\n",
+    b"select nbi nbh where v [\"nbi\"..]\n", b"select nbj nbi where v [\"nbj\"..]\n", b"select nbk nbj where v [\"nbk\"..]\n",
+    b"select nbl nbk where v [\"nbl\"..]\n", b"select nbm nbl where v [\"nbm\"..]\n", b"select nbn nbm where v [\"nbn\"..]\n",
+    b"select nbo nbn where v [\"nbo\"..]\n", b"select nbp nbo where v [\"nbp\"..]\n", b"select nca nbp where v [\"nca\"..]\n",
+    b"select ncb nca where v [\"ncb\"..]\n", b"select ncc ncb where v [\"ncc\"..]\n", b"select ncd ncc where v [\"ncd\"..]\n",
+    b"select nce ncd where v [\"nce\"..]\n", b"select ncf nce where v [\"ncf\"..]\n", b"select ncg ncf where v [\"ncg\"..]\n",
+    b"select nch ncg where v [\"nch\"..]\n", b"select nci nch where v [\"nci\"..]\n", b"select ncj nci where v [\"ncj\"..]\n",
+    b"select nck ncj where v [\"nck\"..]\n", b"select ncl nck where v [\"ncl\"..]\n", b"select ncm ncl where v [\"ncm\"..]\n",
+    b"select ncn ncm where v [\"ncn\"..]\n", b"select nco ncn where v [\"nco\"..]\n", b"select ncp nco where v [\"ncp\"..]\n",
+    b"select nda ncp where v [\"nda\"..]\n", b"select ndb nda where v [\"ndb\"..]\n", b"select ndc ndb where v [\"ndc\"..]\n",
+    b"select ndd ndc where v [\"ndd\"..]\n", b"select nde ndd where v [\"nde\"..]\n", b"select ndf nde where v [\"ndf\"..]\n",
+    b"select ndg ndf where v [\"ndg\"..]\n", b"select ndh ndg where v [\"ndh\"..]\n", b"select ndi ndh where v [\"ndi\"..]\n",
+    b"select ndj ndi where v [\"ndj\"..]\n", b"select ndk ndj where v [\"ndk\"..]\n", b"select ndl ndk where v [\"ndl\"..]\n",
+    b"select ndm ndl where v [\"ndm\"..]\n", b"select ndn ndm where v [\"ndn\"..]\n", b"select ndo ndn where v [\"ndo\"..]\n",
+    b"select ndp ndo where v [\"ndp\"..]\n",
+];
 
-fn append_for(node: usize, statement: &[u8], plan: &mut List<u8>) -> Result<(), NoMemory> {
-    for byte in statement {
-        match byte {
-            b'0' => append_name(node, plan)?,
-            b'1' => append_name(node.saturating_sub(1), plan)?,
-            b'4' => append_name(node.saturating_sub(4), plan)?,
-            _ => plan.push(*byte)?,
-        }
-    }
-    Ok(())
-}
-
-fn plan_of(alloc: Global, nodes: usize) -> Result<List<u8>, NoMemory> {
+fn plan_of(alloc: Global, last: &[u8]) -> Result<List<u8>, NoMemory> {
     let mut plan = List::copy_of(alloc, b"plan 1\n")?;
-    for node in 0..nodes {
-        append_for(node, statement(node), &mut plan)?;
+    for statement in NODES {
+        plan.append(statement)?;
     }
-    append_for(nodes, b"output 1\n", &mut plan)?;
+    plan.append(last)?;
     Ok(plan)
 }
 
@@ -659,25 +566,22 @@ const CHAIN: &[u8] = b"t \"ndp\"\nt \"ndo\"\np \"ndp\"\nt \"ndp\"\nt \"z\"\n";
 const CHAIN_OUT: &[u8] =
     b"t \"ndp\"\nt \"ndp\"\nt \"ndp\"\nt \"ndp\"\np \"ndp\"\np \"ndp\"\np \"ndp\"\np \"ndp\"\nt \"z\"\nt \"z\"\nt \"z\"\nt \"z\"\np *\np *\np *\np *\n# stream naa tuples 3 punctuations 1 rejected 1\n# reject naa line 4 closed by line 3\n# stream nab tuples 3 punctuations 1 rejected 1\n# reject nab line 4 closed by line 3\n# stream nac tuples 3 punctuations 1 rejected 1\n# reject nac line 4 closed by line 3\n# stream nad tuples 3 punctuations 1 rejected 1\n# reject nad line 4 closed by line 3\n# results 8 punctuations 8\n";
 
-// How a plan of so many nodes over four streams ends.
-fn plan_of_nodes_ends(rt: &HostRuntime, nodes: usize, want: &[u8]) -> Result<Option<u8>, NoMemory> {
-    let plan = plan_of(rt.alloc(), nodes)?;
-    let case = Case {
-        command: "run plan a b c a",
-        cuts: PIECES,
-        files: [plan.as_slice(), b"", CHAIN, CHAIN, CHAIN],
-        fault: Fault::Nothing,
-    };
-    ends_with(rt, &case, want, b"")
+// How a plan of these nodes, and what else it says, ends.
+fn nodes_end(rt: &HostRuntime, last: &[u8], want: &[u8]) -> Result<Option<u8>, NoMemory> {
+    let plan = plan_of(rt.alloc(), last)?;
+    let files = [plan.as_slice(), b"", CHAIN, CHAIN, CHAIN];
+    ends_with(rt, &case_of("run plan a b c a", files), want, b"")
 }
 
 #[test]
 fn the_greatest_plan_runs(rt: HostRuntime) {
-    assert_eq!(rt; plan_of_nodes_ends(&rt, 64, CHAIN_OUT), Ok(Some(0)));
+    let ended = nodes_end(&rt, b"output ndp\n", CHAIN_OUT);
+    assert_eq!(rt; ended, Ok(Some(0)));
 }
 
 #[test]
 fn a_plan_of_more_nodes_than_may_be_is_refused(rt: HostRuntime) {
     let line = b"# refused plan line 66 P12 too many\n";
-    assert_eq!(rt; plan_of_nodes_ends(&rt, 65, line), Ok(Some(1)));
+    let last = b"select nea ndp where v [\"nea\"..]\noutput nea\n";
+    assert_eq!(rt; nodes_end(&rt, last, line), Ok(Some(1)));
 }
