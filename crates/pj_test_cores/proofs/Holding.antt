@@ -1,22 +1,30 @@
--- Cores of the pair's plan to which rows came, and from which probes were taken.
-use Rattle.std.proofs.Common.{ℕ, zero, suc, ◌<◌, Bool, true, false, cond, ◌&&◌, List, [], ◌∷◌, ◌++◌, ◌≡◌, None, map, length, eqb, refl, sym, ap, ap₂, ◌∙◌, subst, inl, inr, arith}
+-- Cores to which rows came, and from which probes were taken.
+use Rattle.std.proofs.Common.{ℕ, zero, suc, ◌<◌, Bool, true, false, cond, ◌&&◌, List, [], ◌∷◌, ◌++◌, ◌≡◌, None, map, length, get_or, eqb, refl, sym, ap, ap₂, ◌∙◌, subst, inl, inr, arith}
 use Rattle.std.proofs.lemmas.Bool.{and_parts, eqb-true, false≢true, ne_eqb}
 use Rattle.std.proofs.lemmas.List.{map-append}
 use Rattle.std.proofs.lemmas.List.Elements.{filter-append}
 use Rattle.pj_value.proofs.Members.{In-append_cases, In-append_left}
+use Rattle.pj_shape.specs.declared.columns.Column.{Column}
+use Rattle.pj_shape.specs.declared.joins.CertStep.{CertStep}
 use Rattle.pj_shape.specs.Columns.{domains_of}
 use Rattle.pj_pattern.specs.Fitting.{FitsDomains}
 use Rattle.pj_pattern.specs.Patterns.{Pattern}
 use Rattle.pj_pattern.specs.declared.element.Element.{Element}
 use Rattle.pj_pattern.specs.declared.element.Element.TheVariants.{Tuple, Punct}
+use Rattle.pj_plan.specs.declared.node.Node.{Node as Operation}
+use Rattle.pj_plan.specs.declared.node.Node.TheVariants.{Stream as StreamNode, Select as SelectNode, Project as ProjectNode, Union as UnionNode, Join as JoinNode, Group as GroupNode}
+use Rattle.pj_plan.specs.declared.node.PlanNode.{PlanNode}
+use Rattle.pj_plan.specs.Canonical.{no_node}
+use Rattle.pj_plan.specs.Nodes.{is_stream, stream_columns, streams_in, streams_of as plan_streams}
 use Rattle.pj_plan.specs.Sound.{IsSoundPlan}
+use Rattle.pj_scheme.specs.Derived.{schemes_of}
 use Rattle.pj_events.specs.declared.events.Entry.{Entry}
 use Rattle.pj_events.specs.declared.events.Event.TheVariants.{Arrive, Take as Taken, Give as Given, Sweep as Swept}
 use Rattle.pj_events.specs.Join.{In, has}
 use Rattle.pj_events.specs.Patterns.{all_wild}
 use Rattle.pj_events.specs.Plan.{ArePlanned, IsClearOf, MayArrive, Node, Operator, Stream, operator_at}
 use Rattle.pj_events.specs.History.{Closes, IsEntryAllowed, IsEventAllowed, IsLegal, IsOn, Reached, begun, next, nodes_from, reached_from, reached_of, stream_node, streams_of}
-use Rattle.pj_events.specs.OneThread.{Turn, arrival_of, is_punct, plain}
+use Rattle.pj_events.specs.OneThread.{Turn, arrival_of, is_punct, plain, schema_of}
 use Rattle.pj_events.specs.Outcomes.{elements_of, results_of}
 use Rattle.pj_laws.specs.HistoryLaws.{schema_at}
 use Rattle.pj_laws.specs.Seats.{Holds, giver_by, givers, made_by, takers}
@@ -30,12 +38,14 @@ use Rattle.pj_laws.proofs.Probes.{length-from}
 use Rattle.pj_probe.specs.declared.probe.Found.{Found}
 use Rattle.pj_core.specs.Calls.{FitNode, HasGiven, HasSwept, IsFresh, IsOpen, TakesNext, arriving_of, closing_of}
 use Rattle.pj_core.specs.Cores.{CoreState, MayFollow, StandsFor, nodes_in}
-use Rattle.pj_core.specs.Plans.{RunPlan, nodes_of}
+use Rattle.pj_core.specs.Plans.{RunPlan, nodes_of, operator_of}
+use Rattle.pj_core.proofs.Frames.{certs_at, operator-is}
 use Rattle.pj_core.proofs.Planned.{planned}
+use Rattle.pj_core.proofs.Streams.{columns_there, number_below, stream-number, stream-there}
 use Rattle.pj_core_laws.proofs.UnderWay.{fits-under_way, opens-under_way}
 use Rattle.pj_core_laws.proofs.Allowed.{goes-on}
-use Rattle.pj_test_cores.specs.Holding.{AreRows, HasClosed, HasCome, Holding, HoldsStill, HoldsToo, IsFed, IsHolding, LetsGo, pair_plan}
-use Rattle.pj_test_cores.specs.SamplePlans.{kinds}
+use Rattle.pj_core_laws.proofs.PlainAnswers.{same-streams}
+use Rattle.pj_test_cores.specs.Holding.{AreRows, HasClosed, HasCome, Holding, HoldsStill, HoldsToo, IsFed, IsHolding, LetsGo}
 
 -- ---- what one more entry keeps
 
@@ -249,27 +259,39 @@ unclosed-rows r (t ∷ turns) a =
     unclosed-rows (next false r (arrival_of t)) turns a.2
     ∙ ap (λ (n : ℕ). cond (eqb n 1) (t.stream ∷ r.closed) r.closed) a.1
 
--- ---- the pair's rows
+-- ---- rows that come
 
-pub fed-new : (core : CoreState) (limit : ℕ) → IsFresh core pair_plan limit → IsFed core
-fed-new core limit f = record { of_plan = f.of_plan; sound = f.sound; on = f.on; turns = []; rows = tt; stands = f.stands }
+pub fed_new : (core : CoreState) (plan : RunPlan) (limit : ℕ) → IsFresh core plan limit → IsFed core
+fed_new core plan limit f = record { sound = f.sound; on = f.on; turns = []; rows = tt; stands = f.stands }
 
 rows-push : (turns : List Turn) (t : Turn) → AreRows turns → is_punct t.element ≡ false → t.closing ≡ 0 → AreRows (turns ++ t ∷ [])
 rows-push [] t a p c = (p, c, tt)
 rows-push (x ∷ turns) t a p c = (a.0, a.1, rows-push turns t a.2 p c)
 
--- the streams of the plan, and their columns
-few : (s : ℕ) → s < 2 → s < length (streams_of (nodes_of pair_plan))
-few s lt = lt
+-- the streams of the plan, and their columns, as histories speak of them
+among : (plan : RunPlan) (s : ℕ) → s < length (plan_streams plan.nodes) → s < length (streams_of (nodes_of plan))
+among plan s lt = subst (λ (ns : List ℕ). s < length ns) (sym (same-streams plan)) lt
 
-wide : (s : ℕ) → s < 2 → domains_of (schema_at (nodes_of pair_plan) s) ≡ kinds true
-wide zero lt = refl
-wide (suc zero) lt = refl
-wide (suc (suc s)) lt = absurd (omega (arith, lt))
+schema-is : (plan : RunPlan) (s : ℕ) → s < length (plan_streams plan.nodes) → schema_at (nodes_of plan) s ≡ stream_columns (streams_in plan.nodes) s
+schema-is plan s lt =
+    ap (λ (n : ℕ). schema_of (operator_at (nodes_of plan) n)) (stream-number plan [] s lt)
+    ∙ ap schema_of (operator-is (schemes_of plan.nodes) plan.certs plan.nodes place (number_below plan.nodes s lt))
+    ∙ shown (schemes_of plan.nodes) (certs_at plan.nodes plan.certs place) (get_or plan.nodes place no_node).schema (get_or plan.nodes place no_node).node (stream-there plan.nodes s lt)
+    ∙ columns_there plan.nodes s lt
+  where
+    place : ℕ
+    place = get_or (plan_streams plan.nodes) s 0
 
-pub fed-more : (a b : CoreState) (s : ℕ) → s < 2 → IsFed a → HasCome a b s → IsFed b
-fed-more a b s lt f c = record {
-  of_plan = c.came.notes.plan ∙ f.of_plan;
+    shown : (schemes : List (List (List Bool))) (certs : List (List CertStep)) (columns : List Column) (operation : Operation) → is_stream operation ≡ true → schema_of (operator_of schemes certs columns operation) ≡ columns
+    shown schemes certs columns (StreamNode stated) t = refl
+    shown schemes certs columns (SelectNode input test) t = absurd (false≢true t)
+    shown schemes certs columns (ProjectNode input kept) t = absurd (false≢true t)
+    shown schemes certs columns (UnionNode ins) t = absurd (false≢true t)
+    shown schemes certs columns (JoinNode ins spec) t = absurd (false≢true t)
+    shown schemes certs columns (GroupNode input spec) t = absurd (false≢true t)
+
+pub fed_more : (a b : CoreState) (s : ℕ) → IsFed a → HasCome a b s → IsFed b
+fed_more a b s f c = record {
   sound = subst (λ (p : RunPlan). IsSoundPlan p.nodes) (sym c.came.notes.plan) f.sound;
   on = c.came.on.1;
   turns = f.turns ++ t ∷ [];
@@ -288,10 +310,10 @@ fed-more a b s lt f c = record {
 
     may : MayFollow a h (arrival_of t)
     may = (
-      feeds N (planned a.plan f.sound) h f.stands.legal (goes-on a h f.stands f.on) s (subst (λ (p : RunPlan). s < length (streams_of (nodes_of p))) (sym f.of_plan) (few s lt)) c.element
+      feeds N (planned a.plan f.sound) h f.stands.legal (goes-on a h f.stands f.on) s (among a.plan s c.there) c.element
           (ap (λ (ns : List ℕ). has ns s) (unclosed-rows (begun N) f.turns f.rows))
           (clear-row (elements_of s h) c.element (clear-rows s f.turns f.rows))
-          (subst (λ (p : RunPlan). FitsDomains (domains_of (schema_at (nodes_of p) s)) c.element) (sym f.of_plan) (subst (λ (ks : List _). FitsDomains ks c.element) (sym (wide s lt)) c.fits)),
+          (subst (λ (cs : List Column). FitsDomains (domains_of cs) c.element) (sym (schema-is a.plan s c.there)) c.fits),
       inl refl,
     )
 
@@ -317,21 +339,12 @@ holds-none core sound on turns S = record {
   rows = λ p i. absurd i;
 }
 
--- the closing of a stream of the plan
-closing-is : (a : CoreState) (s : ℕ) → s < 2 → a.plan ≡ pair_plan → (closing_of a s).element ≡ Punct (all_wild (length (schema_at (nodes_in a) s)))
-closing-is a s lt e = subst (λ (p : RunPlan). (closing_of (record a { plan = p }) s).element ≡ Punct (all_wild (length (schema_at (nodes_of p) s)))) (sym e) (go s lt)
-  where
-    go : (s : ℕ) → s < 2 → (closing_of (record a { plan = pair_plan }) s).element ≡ Punct (all_wild (length (schema_at (nodes_of pair_plan) s)))
-    go zero lt = refl
-    go (suc zero) lt = refl
-    go (suc (suc s)) lt = absurd (omega (arith, lt))
-
 -- a stream that is not closed may be closed
-may-close : (a : CoreState) (h : List Entry) (s : ℕ) → s < 2 → a.plan ≡ pair_plan → IsSoundPlan a.plan.nodes → a.kept.stop ≡ None → StandsFor a h → has (reached_of false (nodes_in a) h).closed s ≡ false → MayFollow a h (arrival_of (closing_of a s))
-may-close a h s lt e sound on S free =
-    subst (λ (x : Element). IsEntryAllowed (reached_of false N h) (record { event = Arrive s x; seat = 0; closing = 1 })) (sym (closing-is a s lt e)) (
-      feeds N made h S.legal (goes-on a h S on) s there (Punct (all_wild (length (schema_at N s)))) free tt (wilds-fit (schema_at N s)),
-      inr (refl, closes N made h S.legal (goes-on a h S on) s there),
+may-close : (a : CoreState) (h : List Entry) (s : ℕ) → s < length (plan_streams a.plan.nodes) → IsSoundPlan a.plan.nodes → a.kept.stop ≡ None → StandsFor a h → has (reached_of false (nodes_in a) h).closed s ≡ false → MayFollow a h (arrival_of (closing_of a s))
+may-close a h s lt sound on S free =
+    subst (λ (cs : List Column). MayFollow a h (arrival_of (record { stream = s; element = Punct (all_wild (length cs)); closing = 1 }))) (schema-is a.plan s lt) (
+      feeds N made h S.legal (goes-on a h S on) s (among a.plan s lt) (Punct (all_wild (length (schema_at N s)))) free tt (wilds-fit (schema_at N s)),
+      inr (refl, closes N made h S.legal (goes-on a h S on) s (among a.plan s lt)),
     )
   where
     N : List Node
@@ -340,12 +353,9 @@ may-close a h s lt e sound on S free =
     made : ArePlanned [] N
     made = planned a.plan sound
 
-    there : s < length (streams_of N)
-    there = subst (λ (p : RunPlan). s < length (streams_of (nodes_of p))) (sym e) (few s lt)
-
 -- both streams end
 pub ends : (a b c : CoreState) → IsFed a → HasClosed a b 0 → HasClosed b c 1 → IsHolding c []
-ends a b c f x y = (map arrival_of (all ++ last ∷ []), holds-none c sound-c y.on.1 (all ++ last ∷ []) (subst (StandsFor c) (sym (map-append arrival_of all (last ∷ []))) stands-c))
+ends a b c f x y = (map arrival_of (all ++ last ∷ []), holds-none c sound-c y.came.on.1 (all ++ last ∷ []) (subst (StandsFor c) (sym (map-append arrival_of all (last ∷ []))) stands-c))
   where
     first : Turn
     first = closing_of a 0
@@ -363,13 +373,13 @@ ends a b c f x y = (map arrival_of (all ++ last ∷ []), holds-none c sound-c y.
     open-a = ap (λ (ns : List ℕ). has ns 0) (unclosed-rows (begun (nodes_in a)) f.turns f.rows)
 
     stands-b : StandsFor b (map arrival_of all)
-    stands-b = subst (StandsFor b) (sym (map-append arrival_of f.turns (first ∷ []))) (x.notes.stands h f.stands (may-close a h 0 (omega arith) f.of_plan f.sound f.on f.stands open-a))
+    stands-b = subst (StandsFor b) (sym (map-append arrival_of f.turns (first ∷ []))) (x.came.notes.stands h f.stands (may-close a h 0 x.there f.sound f.on f.stands open-a))
 
     sound-b : IsSoundPlan b.plan.nodes
-    sound-b = subst (λ (p : RunPlan). IsSoundPlan p.nodes) (sym x.notes.plan) f.sound
+    sound-b = subst (λ (p : RunPlan). IsSoundPlan p.nodes) (sym x.came.notes.plan) f.sound
 
     sound-c : IsSoundPlan c.plan.nodes
-    sound-c = subst (λ (p : RunPlan). IsSoundPlan p.nodes) (sym y.notes.plan) sound-b
+    sound-c = subst (λ (p : RunPlan). IsSoundPlan p.nodes) (sym y.came.notes.plan) sound-b
 
     open-b : has (reached_of false (nodes_in b) (map arrival_of all)).closed 1 ≡ false
     open-b =
@@ -378,7 +388,7 @@ ends a b c f x y = (map arrival_of (all ++ last ∷ []), holds-none c sound-c y.
         ∙ ap (λ (ns : List ℕ). has (0 ∷ ns) 1) (unclosed-rows (begun (nodes_in b)) f.turns f.rows)
 
     stands-c : StandsFor c (map arrival_of all ++ arrival_of last ∷ [])
-    stands-c = y.notes.stands (map arrival_of all) stands-b (may-close b (map arrival_of all) 1 (omega arith) (x.notes.plan ∙ f.of_plan) sound-b x.on.1 stands-b open-b)
+    stands-c = y.came.notes.stands (map arrival_of all) stands-b (may-close b (map arrival_of all) 1 y.there sound-b x.came.on.1 stands-b open-b)
 
 -- ---- lesser tickets
 

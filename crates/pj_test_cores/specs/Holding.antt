@@ -1,5 +1,7 @@
--- Cores of the pair's plan to which rows came, and from which probes were taken.
-use Rattle.std.specs.Prelude.{ℕ, ◌<◌, ◌≡◌, true, false, List, [], ◌∷◌, map, None}
+-- Cores to which rows came, and from which probes were taken.
+use Rattle.std.specs.Prelude.{ℕ, ◌<◌, ◌≡◌, false, List, [], ◌∷◌, map, length, None}
+use Rattle.pj_shape.specs.Columns.{domains_of}
+use Rattle.pj_plan.specs.Nodes.{streams_of, stream_columns, streams_in}
 use Rattle.pj_plan.specs.Sound.{IsSoundPlan}
 use Rattle.pj_pattern.specs.declared.element.Element.{Element}
 use Rattle.pj_pattern.specs.Fitting.{FitsDomains}
@@ -11,33 +13,29 @@ use Rattle.pj_laws.specs.Seats.{GivenByTakers, Holds, made_by}
 use Rattle.pj_probe.specs.declared.probe.Found.{Found}
 use Rattle.pj_core.specs.Calls.{HasArrived, arriving_of, closing_of}
 use Rattle.pj_core.specs.Cores.{CoreState, StandsFor, nodes_in}
-use Rattle.pj_core.specs.Plans.{RunPlan, run_plan}
-use Rattle.pj_test_cores.specs.SamplePlans.{kinds, pair_certs, pair_nodes}
-
-abbrev pub pair_plan : RunPlan
-pair_plan = run_plan pair_nodes pair_certs false
 
 -- ---- rows that came
 
--- a row of two numbers has arrived at the stream
+-- a row has arrived at the stream
 pub record HasCome (old new : CoreState) (stream : ℕ) : Type 0 where
   pub element : Element
-  pub fits : FitsDomains (kinds true) element
+  pub there : stream < length (streams_of old.plan.nodes)
+  pub fits : FitsDomains (domains_of (stream_columns (streams_in old.plan.nodes) stream)) element
   pub row : is_punct element ≡ false
   pub came : HasArrived old new (arrival_of (arriving_of stream element))
 
 -- the stream was closed
-abbrev pub HasClosed : CoreState → CoreState → ℕ → Type 0
-HasClosed old new stream = HasArrived old new (arrival_of (closing_of old stream))
+pub record HasClosed (old new : CoreState) (stream : ℕ) : Type 0 where
+  pub there : stream < length (streams_of old.plan.nodes)
+  pub came : HasArrived old new (arrival_of (closing_of old stream))
 
 -- each of these turns brings a row and closes nothing
 abbrev pub AreRows : List Turn → Type 0
 AreRows [] = Unit {0}
 AreRows (turn ∷ turns) = (is_punct turn.element ≡ false) × (turn.closing ≡ 0) × AreRows turns
 
--- the core is one of the pair's plan, and stands for a history of arrivals of rows alone
+-- the core stands for a history of arrivals of rows alone
 pub record IsFed (core : CoreState) : Type 0 where
-  pub of_plan : core.plan ≡ pair_plan
   pub sound : IsSoundPlan core.plan.nodes
   pub on : core.kept.stop ≡ None
   pub turns : List Turn

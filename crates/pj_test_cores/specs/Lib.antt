@@ -1,2 +1,1 @@
-pub mod SamplePlans
 pub mod Holding

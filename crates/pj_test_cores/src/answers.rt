@@ -1,87 +1,62 @@
 // The answer of a plan over complete lists, with ample memory.
+ghost use Rattle.std.specs.Prelude.{◌<◌};
+
+use crate::cases::{element_of, plan_of};
 use pj_algebra::eval;
+use pj_element::row_text;
+use pj_pattern::Element;
 use pj_plan::Plan;
-use pj_plan_text::read_plan;
-use pj_value::{List, NoMemory, Row, Value};
+use pj_value::{List, NoMemory, Row};
 use std::alloc::Global;
-use std::test::Fail;
 
 // Two streams united, cut, joined with a third by a key, and grouped.
-const PLAN: &[u8] =
-    b"plan 1\nstream a x:int v:int\nstream b y:int w:int\nstream c z:int\nunion u a b\nselect s u where v [2..]\nproject p s k=x v\njoin j p c on k=z\ngroup g j by k of n=count t=sum:v least=min:v most=max:v\noutput g\n";
+const PLAN: &str =
+    "plan 1\nstream a x:int v:int\nstream b y:int w:int\nstream c z:int\nunion u a b\nselect s u where v [2..]\nproject p s k=x v\njoin j p c on k=z\ngroup g j by k of n=count t=sum:v least=min:v most=max:v\noutput g\n";
 
-fn plan_of(alloc: Global) -> Result<Plan, NoMemory> {
-    match read_plan(alloc, PLAN) {
-        Ok(plan) => Ok(plan),
-        Err(_) => Err(NoMemory),
-    }
-}
+// The rows of its streams.
+const ROWS: [&[&str]; 3] = [
+    &["t 1 1", "t 1 5", "t 2 7"],
+    &["t 2 2", "t 1 9", "t 3 4"],
+    &["t 2", "t 1", "t 1"],
+];
 
-fn row_of(alloc: Global, numbers: &[i64]) -> Result<Row, NoMemory> {
-    let mut values = List::new(alloc);
-    for number in numbers {
-        values.push(Value::Int(*number))?;
-    }
-    Ok(Row::of(values))
-}
-
-fn pairs_of(alloc: Global, pairs: &[(i64, i64)]) -> Result<List<Row>, NoMemory> {
+fn rows_of(alloc: Global, plan: &Plan, stream: usize) -> Result<List<Row>, NoMemory>
+    requires { stream < 3 }
+{
     let mut rows = List::new(alloc);
-    for (first, second) in pairs {
-        rows.push(row_of(alloc, &[*first, *second])?)?;
-    }
-    Ok(rows)
-}
-
-fn keys_of(alloc: Global, keys: &[i64]) -> Result<List<Row>, NoMemory> {
-    let mut rows = List::new(alloc);
-    for key in keys {
-        rows.push(row_of(alloc, &[*key])?)?;
+    for line in ROWS[stream] {
+        match element_of(alloc, plan, stream as u32, line)? {
+            Element::Tuple(row) => rows.push(row)?,
+            Element::Punct(_) => return Err(NoMemory),
+        }
     }
     Ok(rows)
 }
 
 fn answer(alloc: Global) -> Result<List<Row>, NoMemory> {
-    let plan = plan_of(alloc)?;
+    let plan = plan_of(alloc, PLAN)?;
     let mut streams = List::new(alloc);
-    streams.push(pairs_of(alloc, &[(1, 1), (1, 5), (2, 7)])?)?;
-    streams.push(pairs_of(alloc, &[(2, 2), (1, 9), (3, 4)])?)?;
-    streams.push(keys_of(alloc, &[2, 1, 1])?)?;
+    for stream in 0..3 {
+        streams.push(rows_of(alloc, &plan, stream)?)?;
+    }
     eval(alloc, &plan, streams.as_slice())
 }
 
-// Whether the row of this place has these numbers.
-fn has(rows: &List<Row>, place: usize, numbers: &[i64]) -> bool {
-    match rows.as_slice().get(place) {
-        Some(row) => are(row, numbers),
-        None => false,
+// Whether the answer has these lines.
+fn is_answer(alloc: Global, lines: &str) -> Result<bool, NoMemory> {
+    let rows = answer(alloc)?;
+    let mut text = List::new(alloc);
+    for row in rows.as_slice() {
+        row_text(alloc, row, &mut text)?;
+        text.push(b'\n')?;
     }
-}
-
-fn are(row: &Row, numbers: &[i64]) -> bool {
-    for column in 0..numbers.len() {
-        if column >= row.len() {
-            return false;
-        }
-        if !is_number(row.at(column), numbers[column]) {
-            return false;
-        }
-    }
-    true
-}
-
-fn is_number(value: &Value, number: i64) -> bool {
-    match value {
-        Value::Int(own) => *own == number,
-        Value::Text(_) => false,
-    }
+    Ok(text.as_slice() == lines.as_bytes())
 }
 
 #[test]
-fn an_answer_is_worked_out(rt: HostRuntime) -> Result<(), Fail> {
-    let rows = answer(rt.alloc())?;
-    assert_eq!(rt; rows.len(), 2);
-    assert!(rt; has(&rows, 0, &[1, 4, 28, 5, 9]));
-    assert!(rt; has(&rows, 1, &[2, 2, 9, 2, 7]));
-    Ok(())
+fn an_answer_is_worked_out(rt: HostRuntime) {
+    assert_eq!(rt;
+        is_answer(rt.alloc(), "t 1 4 28 5 9\nt 2 2 9 2 7\n"),
+        Ok(true)
+    );
 }

@@ -1,66 +1,40 @@
 // Three probes of one join under way at once.
-ghost use Rattle.std.specs.Prelude.{◌≡◌, ◌<◌, ◌≤◌, ◌^◌, [], ◌∷◌, None, IfOk, IfSome, IsTrue};
-ghost use Rattle.pj_core.specs.Calls.{HasGiven, HasSwept, IsFresh, IsOpen};
-ghost use Rattle.pj_test_cores.specs.Holding.{HasClosed, HasCome, HoldsStill, HoldsToo, IsFed, IsHolding, LetsGo, pair_plan};
-ghost use Rattle.pj_test_cores.specs.SamplePlans.{pair_certs as certs_of_pair, pair_statements};
+ghost use Rattle.std.specs.Prelude.{◌<◌, [], ◌∷◌, IfSome, IsTrue, OnOk};
+ghost use Rattle.pj_test_cores.specs.Holding.{HasClosed, HasCome, HoldsStill, HoldsToo, IsFed, IsHolding, LetsGo};
 
-use crate::cores::{has_input, number_in, pair, pair_certs, row, takes};
-use pj_core::{Core, Out, Probe};
+use crate::cases::{are, core_over, element_of, has_input};
+use crate::cores::{PAIR, PAIR_CERTS};
+use pj_core::{Core, Probe};
 use pj_pattern::Element;
-use pj_plan::{Plan, Stated};
-use pj_shape::Cert;
-use pj_value::{List, NoMemory};
+use pj_value::NoMemory;
 use std::alloc::Global;
 
 // The node of the pair's join.
 const JOIN: u32 = 2;
 
-// ---- the core
-
-// The core of the pair's plan, without a trace.
-#[tactic(auto, using(crate::proofs::SamplePlans::pair_sample, crate::proofs::SamplePlans::pair_is))]
-fn core_of_pair(alloc: Global, statements: List<Stated>, certs: List<List<Cert>>) -> Option<Core>
-    requires sample { (statements ≡ pair_statements) × (certs ≡ certs_of_pair) }
-    ensures { IfSome result (λ core. IsFresh core pair_plan 9) }
-{
-    match Plan::build(alloc, statements.as_slice(), 9) {
-        Ok(plan) => match Core::new(alloc, plan, certs, 9, false) {
-            Ok(core) => Some(core),
-            Err(NoMemory) => None,
-        },
-        Err(_) => None,
-    }
-}
-
-fn fresh(alloc: Global) -> Option<Core>
-    ensures { IfSome result (λ core. IsFresh core pair_plan 9) }
-{
-    match pair(alloc) {
-        Ok(statements) => match pair_certs(alloc) {
-            Ok(certs) => core_of_pair(alloc, statements, certs),
-            Err(NoMemory) => None,
-        },
-        Err(NoMemory) => None,
-    }
-}
-
 // ---- what comes
 
-// Whether a row of two numbers came to a stream.
-fn come(alloc: Global, core: &mut Core, stream: u32, n: i64, m: i64) -> bool
-    ensures { IsTrue result → HasCome core.old core.new stream }
+fn come(alloc: Global, core: &mut Core, stream: u32, line: &str) -> Result<(), NoMemory>
+    ensures { OnOk result (HasCome core.old core.new stream) }
 {
-    if takes(core.plan(), stream, true) {
-        match row(alloc, true, n, m) {
-            Ok(row) => match core.arrive(stream, Element::Tuple(row)) {
-                Ok(()) => true,
-                Err(_) => false,
-            },
-            Err(NoMemory) => false,
-        }
-    } else {
-        false
+    match element_of(alloc, core.plan(), stream, line)? {
+        Element::Tuple(row) => match core.arrive(stream, Element::Tuple(row)) {
+            Ok(()) => Ok(()),
+            Err(_) => Err(NoMemory),
+        },
+        Element::Punct(_) => Err(NoMemory),
     }
+}
+
+#[tactic(auto, using(crate::proofs::Holding::fed_more))]
+fn come_all(alloc: Global, core: &mut Core, rows: &[(u32, &str)]) -> Result<(), NoMemory>
+    requires { IsFed core.old }
+    ensures { OnOk result (IsFed core.new) }
+{
+    for (stream, line) in rows {
+        come(alloc, core, *stream, line)?;
+    }
+    Ok(())
 }
 
 // Whether a stream was closed.
@@ -68,27 +42,9 @@ fn end(core: &mut Core, stream: u32) -> bool
     ensures { IsTrue result → HasClosed core.old core.new stream }
 {
     if (stream as usize) < core.plan().streams().len() {
-        match core.close_stream(stream) {
-            Ok(()) => true,
-            Err(_) => false,
-        }
-    } else {
-        false
+        return core.close_stream(stream).is_ok();
     }
-}
-
-// An item and two bids on it come.
-fn come_three(alloc: Global, core: &mut Core) -> bool
-    requires { IsFresh core.old pair_plan 9 }
-    ensures { IsTrue result → IsFed core.new }
-{
-    if !come(alloc, core, 0, 1, 7) {
-        return false;
-    }
-    if !come(alloc, core, 1, 1, 50) {
-        return false;
-    }
-    come(alloc, core, 1, 1, 60)
+    false
 }
 
 // Both streams end.
@@ -183,69 +139,46 @@ fn hold_three(alloc: Global, core: &mut Core) -> Option<(u64, u64, u64)>
     None
 }
 
-// ---- what is handed out
+// An item and two bids on it.
+const ROWS: &[(u32, &str)] = &[(0, "t 1 7"), (1, "t 1 50"), (1, "t 1 60")];
 
-// The numbers of a row; those of a punctuation or of a note are 0.
-fn numbers(out: &Out) -> [i64; 4] {
-    match out {
-        Out::Tuple(row) => [
-            number_in(row, 0),
-            number_in(row, 1),
-            number_in(row, 2),
-            number_in(row, 3),
-        ],
-        Out::Punct(_) => [0; 4],
-        Out::Purged {
-            join: _,
-            input: _,
-            row: _,
-        } => [-9; 4],
+// A core of the pair to which they came, and whose streams ended.
+fn ended(alloc: Global) -> Option<Core>
+    ensures { IfSome result (λ core. IsHolding core []) }
+{
+    match core_over(alloc, PAIR, PAIR_CERTS, 9, false) {
+        Ok(Some(mut core)) => {
+            if come_all(alloc, &mut core, ROWS).is_err() {
+                return None;
+            }
+            if end_both(&mut core) {
+                return Some(core);
+            }
+            None
+        }
+        _ => None,
     }
 }
 
-fn numbers_at(outs: &List<Out>, at: usize) -> [i64; 4] {
-    match outs.as_slice().get(at) {
-        Some(out) => numbers(out),
-        None => [-8; 4],
-    }
-}
-
-// What the core hands out where its run settles.
-fn settled(alloc: Global, core: &mut Core) -> List<Out> {
-    match core.settle() {
-        Ok(outs) => outs,
-        Err(_) => List::new(alloc),
-    }
-}
-
-// How many rows the sweeps between removed, and what is handed out in the end.
-fn held(alloc: Global) -> Option<((u64, u64, u64), List<Out>, Core)> {
-    let mut core = fresh(alloc)?;
-    if !come_three(alloc, &mut core) {
-        return None;
-    }
-    if !end_both(&mut core) {
-        return None;
-    }
+// How many rows the sweeps between removed, whether these lines are handed out once the run settles, and how many rows are stored
+// and punctuations wait then.
+fn held(alloc: Global, lines: &str) -> Option<((u64, u64, u64), bool, [u64; 2])> {
+    let mut core = ended(alloc)?;
     let removed = hold_three(alloc, &mut core)?;
-    let outs = settled(alloc, &mut core);
-    Some((removed, outs, core))
+    match core.settle() {
+        Ok(outs) => {
+            let handed = are(alloc, outs.as_slice(), lines) == Ok(true);
+            let look = core.look();
+            Some((removed, handed, [look.stored, look.waiting]))
+        }
+        Err(_) => None,
+    }
 }
 
 // Though both streams have ended, no row goes while the first ticket is under way. The rows are handed out in the order in which
 // their tickets were given, and once the run settles the end of both streams behind them; nothing is stored then.
 #[test]
 fn three_probes_are_given_the_other_way_round(rt: HostRuntime) {
-    let alloc = rt.alloc();
-    match held(alloc) {
-        Some((removed, outs, core)) => {
-            assert_eq!(rt; removed, (0, 0, 0));
-            assert_eq!(rt; outs.len(), 4);
-            assert_eq!(rt; numbers_at(&outs, 0), [1, 7, 1, 60]);
-            assert_eq!(rt; numbers_at(&outs, 1), [1, 7, 1, 50]);
-            assert_eq!(rt; [numbers_at(&outs, 2), numbers_at(&outs, 3)], [[0; 4]; 2]);
-            assert_eq!(rt; [core.look().stored, core.look().waiting], [0, 0]);
-        }
-        None => assert!(rt; false),
-    }
+    let lines = "t 1 7 1 60\nt 1 7 1 50\np * * * *\np * * * *\n";
+    assert_eq!(rt; held(rt.alloc(), lines), Some(((0, 0, 0), true, [0, 0])));
 }

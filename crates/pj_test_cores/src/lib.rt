@@ -6,6 +6,8 @@ mod answers;
 #[cfg(test)]
 mod by_hand;
 #[cfg(test)]
+mod cases;
+#[cfg(test)]
 mod cores;
 #[cfg(test)]
 mod held;

@@ -5,26 +5,17 @@ use pj_io::{
 use pj_value::{Bytes, NoMemory};
 use std::alloc::Global;
 use std::fs;
+use std::test::Fail;
 
-// All bytes of a file, if it is opened and read.
-fn bytes_of<F: Folder>(alloc: Global, folder: &mut F, name: &[u8]) -> Option<Bytes> {
+// Whether the file of the name has these bytes, or is not opened.
+fn has<F: Folder>(alloc: Global, folder: &mut F, name: &[u8], want: Option<&[u8]>) -> bool {
     match folder.open_file(alloc, name) {
         Ok(mut file) => {
             let whole = read_whole(alloc, &mut file, 100);
             folder.close_file(file);
-            whole.ok()
+            matches!((&whole, want), (Ok(whole), Some(want)) if whole.as_slice() == want)
         }
-        Err(_) => None,
-    }
-}
-
-// Whether the file of the name has these bytes, or can't be read.
-fn has<F: Folder>(alloc: Global, folder: &mut F, name: &[u8], want: Option<&[u8]>) -> bool {
-    match (bytes_of(alloc, folder, name), want) {
-        (Some(bytes), Some(want)) => bytes.as_slice() == want,
-        (None, None) => true,
-        (Some(_), None) => false,
-        (None, Some(_)) => false,
+        Err(_) => want.is_none(),
     }
 }
 
@@ -44,41 +35,34 @@ fn disk_files_are_read(rt: HostRuntime) {
     assert!(rt; StdSink::new(rt.alloc(), &rt).is_ok());
 }
 
-fn one_file(alloc: Global) -> Result<MemFolder, NoMemory> {
-    let mut folder = MemFolder::new(alloc, &[1])?;
-    folder.add(alloc, b"a", b"xyz", 2, &[])?;
-    Ok(folder)
-}
-
+// The second opening fails.
 #[test]
-fn folders_give_what_was_added(rt: HostRuntime) {
-    match one_file(rt.alloc()) {
-        Ok(mut folder) => {
-            for (name, want) in [(b"a", Some(b"xyz".as_slice())), (b"a", None), (b"b", None)] {
-                assert!(rt; has(rt.alloc(), &mut folder, name, want));
-            }
-        }
-        Err(_) => assert!(rt; false),
+fn folders_give_what_was_added(rt: HostRuntime) -> Result<(), Fail> {
+    let mut folder = MemFolder::new(rt.alloc(), &[1])?;
+    folder.add(rt.alloc(), b"a", b"xyz", 2, &[])?;
+    for (name, want) in [(b"a", Some(b"xyz".as_slice())), (b"a", None), (b"b", None)] {
+        assert!(rt; has(rt.alloc(), &mut folder, name, want));
     }
+    Ok(())
 }
 
-fn read_of(alloc: Global, fails: &[u64], limit: u32) -> Result<Bytes, WholeStop> {
-    let mut source = MemSource::new(alloc, b"abcde", 2, fails)?;
-    read_whole(alloc, &mut source, limit as u64)
+fn read_of(alloc: Global, fail: u64, limit: u32) -> Result<Bytes, WholeStop> {
+    let mut source = MemSource::new(alloc, b"abcde", 2, &[fail])?;
+    read_whole(alloc, &mut source, u64::from(limit))
 }
 
 #[test]
 fn sources_are_read_whole(rt: HostRuntime) {
-    let whole = read_of(rt.alloc(), &[9], 5);
+    let whole = read_of(rt.alloc(), 9, 5);
     assert!(rt; matches!(&whole, Ok(whole) if whole.as_slice() == b"abcde".as_slice()));
     for (limit, stop) in [(4, WholeStop::TooLong), (9, WholeStop::Fault)] {
-        assert!(rt; read_of(rt.alloc(), &[3], limit).err() == Some(stop));
+        assert_eq!(rt; read_of(rt.alloc(), 3, limit).err(), Some(stop));
     }
 }
 
 // Whether these bytes are what is written of five, and it fails where they are fewer.
-fn is_written(alloc: Global, fails: &[u64], room: usize, want: &[u8]) -> Result<bool, NoMemory> {
-    let mut sink = MemSink::new(alloc, 2, fails)?;
+fn is_written(alloc: Global, fail: u64, room: usize, want: &[u8]) -> Result<bool, NoMemory> {
+    let mut sink = MemSink::new(alloc, 2, &[fail])?;
     sink.room(room)?;
     let all = write_all(&mut sink, b"abcde").is_ok();
     Ok(sink.bytes() == want && all == (want.len() == 5))
@@ -91,6 +75,6 @@ fn sinks_keep_what_is_written(rt: HostRuntime) {
         (1, 100, b"ab"),
         (9, 4, b"abcd"),
     ] {
-        assert!(rt; matches!(is_written(rt.alloc(), &[fail], room, want), Ok(true)));
+        assert_eq!(rt; is_written(rt.alloc(), fail, room, want), Ok(true));
     }
 }

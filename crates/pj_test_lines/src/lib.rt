@@ -2,6 +2,8 @@
 #![tactic(auto)]
 
 #[cfg(test)]
+mod doors;
+#[cfg(test)]
 mod elements;
 #[cfg(test)]
 mod files;
@@ -13,5 +15,7 @@ mod lines;
 mod patterns;
 #[cfg(test)]
 mod shapes;
+#[cfg(test)]
+mod texts;
 #[cfg(test)]
 mod values;

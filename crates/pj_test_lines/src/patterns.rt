@@ -1,5 +1,5 @@
 // What no clause says: that the calls succeed with ample memory, and that the definitions mean the format.
-ghost use Rattle.std.specs.Prelude.{◌≡◌, ◌<◌, All, ◌&&◌, ℤ, pos, neg_ℤ, negsuc, Bool, true, false, List, [], ◌∷◌, Some, None, IfOk};
+ghost use Rattle.std.specs.Prelude.{◌≡◌, pos, negsuc, true, false, [], ◌∷◌, Some, None, IfOk};
 ghost use Rattle.pj_value.specs.declared.values.Value.TheVariants.{Int, Text};
 ghost use Rattle.pj_pattern.specs.declared.pattern.Form.TheVariants.{Wild, Empty, Constant, Range, Members};
 ghost use Rattle.pj_pattern.specs.Patterns.{covers_pattern, matches_value};
@@ -8,9 +8,10 @@ ghost use Rattle.pj_pattern.specs.Normal.{normal_of};
 ghost use Rattle.pj_pattern.specs.Meets.{meet_of};
 ghost use Rattle.pj_pattern.specs.Columns.{keep_of, widen_of};
 
-use pj_pattern::{Form, Pattern, Punct, Shape};
-use pj_value::{Kind, List, NoMemory, Value, copy_values};
+use pj_pattern::{Pattern, Punct, Shape};
+use pj_value::{List, NoMemory, Value, copy_values};
 use std::alloc::Global;
+use std::test::Fail;
 
 // The list of 1 and 3, from 3, 1 and 3.
 fn one_and_three(alloc: Global) -> Result<Pattern, NoMemory>
@@ -20,47 +21,21 @@ fn one_and_three(alloc: Global) -> Result<Pattern, NoMemory>
     Pattern::list(alloc, values)
 }
 
-fn is_constant(pattern: &Pattern, number: i64) -> bool {
-    match pattern.shape() {
-        Shape::Constant(value) => value.same(&Value::Int(number)),
-        _ => false,
-    }
-}
-
-fn copied_list(alloc: Global) -> Result<Pattern, NoMemory> {
-    let list = one_and_three(alloc)?;
-    list.copy(alloc)
+#[test]
+fn lists_are_copied(rt: HostRuntime) -> Result<(), Fail> {
+    let list = one_and_three(rt.alloc())?;
+    let copy = list.copy(rt.alloc())?;
+    assert!(rt; matches!(copy.shape(), Shape::Members([Value::Int(1), Value::Int(3)])));
+    Ok(())
 }
 
 #[test]
-fn lists_are_copied(rt: HostRuntime) {
-    let list = copied_list(rt.alloc());
-    assert!(rt;
-        matches!(&list, Ok(list) if matches!(list.shape(), Shape::Members([Value::Int(1), Value::Int(3)])))
-    );
-}
-
-fn met_with_range(alloc: Global) -> Result<Pattern, NoMemory> {
-    let list = one_and_three(alloc)?;
-    list.meet(
-        alloc,
-        &Pattern::range(Some(Value::Int(2)), Some(Value::Int(9))),
-    )
-}
-
-#[test]
-fn patterns_meet(rt: HostRuntime) {
-    let meet = met_with_range(rt.alloc());
-    assert!(rt; matches!(&meet, Ok(meet) if is_constant(meet, 3)));
-}
-
-#[test]
-fn a_range_covers_its_values(rt: HostRuntime) {
+fn patterns_meet(rt: HostRuntime) -> Result<(), Fail> {
+    let list = one_and_three(rt.alloc())?;
     let range = Pattern::range(Some(Value::Int(2)), Some(Value::Int(9)));
-    let nine = Pattern::constant(Value::Int(9));
-    assert!(rt; range.covers(&nine));
-    assert!(rt; !nine.covers(&range));
-    assert!(rt; range.fits(Kind::Int));
+    let meet = list.meet(rt.alloc(), &range)?;
+    assert!(rt; matches!(meet.as_constant(), Some(Value::Int(3))));
+    Ok(())
 }
 
 // The punctuation of a wildcard and 5.
@@ -73,42 +48,32 @@ fn wild_and_five(alloc: Global) -> Result<Punct, NoMemory>
     Ok(Punct::of(patterns))
 }
 
-fn five_kept(alloc: Global, columns: &[u32]) -> Result<Option<Punct>, NoMemory>
-    requires { All (λ column. column < 2) columns.now }
-{
-    let punct = wild_and_five(alloc)?;
-    punct.keep(alloc, columns)
+fn is_five(pattern: &Pattern) -> bool {
+    matches!(pattern.as_constant(), Some(Value::Int(5)))
 }
 
 #[test]
-fn punctuations_are_cut(rt: HostRuntime) {
-    let twice = five_kept(rt.alloc(), &[1, 1]);
-    assert!(rt;
-        matches!(&twice, Ok(Some(twice)) if matches!(twice.as_slice(), [one, two] if is_constant(one, 5) && is_constant(two, 5)))
-    );
-    assert!(rt; matches!(&five_kept(rt.alloc(), &[0]), Ok(None)));
-}
-
-fn widened(alloc: Global) -> Result<Punct, NoMemory> {
-    let punct = wild_and_five(alloc)?;
-    punct.widen(alloc, 0, 1)
-}
-
-fn widened_copy(alloc: Global) -> Result<Punct, NoMemory> {
-    let wide = widened(alloc)?;
-    wide.copy(alloc)
+fn punctuations_are_cut(rt: HostRuntime) -> Result<(), Fail> {
+    let punct = wild_and_five(rt.alloc())?;
+    assert!(rt; punct.keep(rt.alloc(), &[0])?.is_none());
+    match punct.keep(rt.alloc(), &[1, 1])? {
+        Some(twice) => {
+            assert!(rt; matches!(twice.as_slice(), [one, two] if is_five(one) && is_five(two)))
+        }
+        None => assert!(rt; false),
+    }
+    Ok(())
 }
 
 #[test]
-fn punctuations_are_widened(rt: HostRuntime) {
-    let copy = widened_copy(rt.alloc());
-    assert!(rt;
-        matches!(&copy, Ok(copy) if matches!(copy.as_slice(), [_, five, _] if is_constant(five, 5)))
-    );
-    let all = Punct::all_wild(rt.alloc(), 3);
-    assert!(rt;
-        matches!((&all, &copy), (Ok(all), Ok(copy)) if all.covers(copy) && !copy.covers(all))
-    );
+fn punctuations_are_widened(rt: HostRuntime) -> Result<(), Fail> {
+    let punct = wild_and_five(rt.alloc())?;
+    let wide = punct.widen(rt.alloc(), 0, 1)?;
+    let copy = wide.copy(rt.alloc())?;
+    assert!(rt; matches!(copy.as_slice(), [_, five, _] if is_five(five)));
+    let all = Punct::all_wild(rt.alloc(), 3)?;
+    assert!(rt; all.covers(&copy) && !copy.covers(&all));
+    Ok(())
 }
 
 // The definitions, computed on a few patterns.

@@ -1,9 +1,9 @@
 // Each public call that allocates, with ample memory.
-use pj_shape::{
-    Agg, Cert, CertStep, ClassCol, Column, GroupSpec, JoinSpec, Schema, Scheme, Schemes,
-};
+use crate::texts::schema_of;
+use pj_shape::{Agg, Cert, CertStep, ClassCol, Column, GroupSpec, JoinSpec, Scheme, Schemes};
 use pj_value::{Kind, List, NoMemory};
 use std::alloc::Global;
+use std::test::Fail;
 
 fn only<T: Drop>(alloc: Global, item: T) -> Result<List<T>, NoMemory> {
     let mut list = List::new(alloc);
@@ -11,22 +11,41 @@ fn only<T: Drop>(alloc: Global, item: T) -> Result<List<T>, NoMemory> {
     Ok(list)
 }
 
-fn schema(alloc: Global) -> Result<Schema, NoMemory> {
-    let name = List::copy_of(alloc, b"word")?;
-    let kind = Kind::Text;
-    Ok(Schema::of(only(alloc, Column { name, kind })?))
+fn spec(alloc: Global) -> Result<JoinSpec, NoMemory> {
+    let (input, column) = (1, 2);
+    let class = List::copy_of(alloc, &[ClassCol { input, column }])?;
+    let classes = only(alloc, class)?;
+    let inputs = only(alloc, schema_of(alloc, &[Kind::Text])?)?;
+    Ok(JoinSpec { inputs, classes })
 }
 
-fn is_schema(schema: &Schema) -> bool {
-    match schema.columns() {
+fn is_spec(spec: &JoinSpec) -> bool {
+    match (spec.inputs.as_slice(), spec.classes.as_slice()) {
+        ([input], [class]) => {
+            are_columns(input.columns())
+                && class.as_slice()
+                    == [ClassCol {
+                        input: 1,
+                        column: 2,
+                    }]
+                    .as_slice()
+        }
+        _ => false,
+    }
+}
+
+fn are_columns(columns: &[Column]) -> bool {
+    match columns {
         [column] => column.name.as_slice() == b"word".as_slice() && column.kind == Kind::Text,
         _ => false,
     }
 }
 
-fn schemes(alloc: Global) -> Result<List<Scheme>, NoMemory> {
-    let marks = List::copy_of(alloc, &[true, false])?;
-    only(alloc, Scheme::of(marks))
+#[test]
+fn joins_are_copied(rt: HostRuntime) -> Result<(), Fail> {
+    let spec = spec(rt.alloc())?;
+    assert!(rt; is_spec(&spec.copy(rt.alloc())?));
+    Ok(())
 }
 
 fn are_schemes(schemes: &[Scheme]) -> bool {
@@ -36,75 +55,30 @@ fn are_schemes(schemes: &[Scheme]) -> bool {
     }
 }
 
-fn spec(alloc: Global) -> Result<JoinSpec, NoMemory> {
-    let (input, column) = (1, 2);
-    let class = List::copy_of(alloc, &[ClassCol { input, column }])?;
-    let classes = only(alloc, class)?;
-    let inputs = only(alloc, schema(alloc)?)?;
-    Ok(JoinSpec { inputs, classes })
-}
-
-fn is_spec(spec: &JoinSpec) -> bool {
-    match (spec.inputs.as_slice(), spec.classes.as_slice()) {
-        ([input], [class]) => is_schema(input) && is_class(class.as_slice()),
-        _ => false,
-    }
-}
-
-fn is_class(class: &[ClassCol]) -> bool {
-    match class {
-        [at] => at.input == 1 && at.column == 2,
-        _ => false,
-    }
-}
-
-fn copied_spec(alloc: Global) -> Result<JoinSpec, NoMemory> {
-    let spec = spec(alloc)?;
-    spec.copy(alloc)
+#[test]
+fn schemes_are_copied(rt: HostRuntime) -> Result<(), Fail> {
+    let scheme = Scheme::of(List::copy_of(rt.alloc(), &[true, false])?);
+    let schemes = Schemes::of(only(rt.alloc(), only(rt.alloc(), scheme)?)?);
+    let copy = schemes.copy(rt.alloc())?;
+    assert!(rt; copy.len() == 1 && are_schemes(copy.at(0).as_slice()));
+    Ok(())
 }
 
 #[test]
-fn joins_are_copied(rt: HostRuntime) {
-    let copy = copied_spec(rt.alloc());
-    assert!(rt; matches!(&copy, Ok(copy) if is_spec(copy)));
-}
-
-fn copied_schemes(alloc: Global) -> Result<Schemes, NoMemory> {
-    let schemes = Schemes::of(only(alloc, schemes(alloc)?)?);
-    schemes.copy(alloc)
-}
-
-#[test]
-fn schemes_are_copied(rt: HostRuntime) {
-    let copy = copied_schemes(rt.alloc());
-    assert!(rt; matches!(&copy, Ok(copy) if copy.len() == 1 && are_schemes(copy.at(0).as_slice())));
-}
-
-fn copied_cert(alloc: Global) -> Result<Cert, NoMemory> {
+fn certificates_are_copied(rt: HostRuntime) -> Result<(), Fail> {
     let (input, scheme) = (2, 3);
-    let cert = Cert::of(List::copy_of(alloc, &[CertStep { input, scheme }])?);
-    cert.copy(alloc)
+    let cert = Cert::of(List::copy_of(rt.alloc(), &[CertStep { input, scheme }])?);
+    let copy = cert.copy(rt.alloc())?;
+    assert!(rt; copy.len() == 1 && *copy.at(0) == CertStep { input, scheme });
+    Ok(())
 }
 
 #[test]
-fn certificates_are_copied(rt: HostRuntime) {
-    let copy = copied_cert(rt.alloc());
-    assert!(rt; matches!(&copy, Ok(copy) if copy.len() == 1 && copy.at(0).scheme == 3));
-}
-
-fn copied_group(alloc: Global) -> Result<GroupSpec, NoMemory> {
-    let keys = List::copy_of(alloc, &[3, 1])?;
-    let aggs = List::copy_of(alloc, &[Agg::Count, Agg::Sum(2)])?;
-    GroupSpec { keys, aggs }.copy(alloc)
-}
-
-fn is_group(group: &GroupSpec) -> bool {
-    group.keys.as_slice() == [3, 1].as_slice()
-        && group.aggs.as_slice() == [Agg::Count, Agg::Sum(2)].as_slice()
-}
-
-#[test]
-fn groups_are_copied(rt: HostRuntime) {
-    let copy = copied_group(rt.alloc());
-    assert!(rt; matches!(&copy, Ok(copy) if is_group(copy)));
+fn groups_are_copied(rt: HostRuntime) -> Result<(), Fail> {
+    let keys = List::copy_of(rt.alloc(), &[3, 1])?;
+    let aggs = List::copy_of(rt.alloc(), &[Agg::Count, Agg::Sum(2)])?;
+    let copy = GroupSpec { keys, aggs }.copy(rt.alloc())?;
+    assert!(rt; copy.keys.as_slice() == [3, 1].as_slice());
+    assert!(rt; copy.aggs.as_slice() == [Agg::Count, Agg::Sum(2)].as_slice());
+    Ok(())
 }

@@ -2,9 +2,52 @@
 use pj_value::{JoinedParts, List, NoMemory, Row, SharedText, Spelling, Value, value_text};
 use std::alloc::Global;
 use std::cmp::Ordering;
+use std::test::Fail;
+
+#[test]
+fn lists_grow(rt: HostRuntime) -> Result<(), Fail> {
+    let mut list = List::copy_of(rt.alloc(), &[1u8, 2])?;
+    list.push(7)?;
+    list.append(&[8, 9])?;
+    assert!(rt; list.as_slice() == [1u8, 2, 7, 8, 9].as_slice());
+    Ok(())
+}
 
 fn text(alloc: Global, bytes: &[u8]) -> Result<Value, NoMemory> {
     Ok(Value::Text(SharedText::copy_of(alloc, bytes)?))
+}
+
+// Whether the value is spelled so.
+fn is_spelled(alloc: Global, value: &Value, spelling: &[u8]) -> Result<bool, NoMemory> {
+    let mut out = List::new(alloc);
+    value_text(alloc, value, &mut out)?;
+    Ok(out.as_slice() == spelling)
+}
+
+const TEXTS: [(&[u8], &[u8]); 4] = [
+    (b"ann", b"\"ann\""),
+    (b"q\"\\\nA", b"\"q\\\"\\\\\\nA\""),
+    (b"\r\t\x00\x1f\x7f\xff", b"\"\\r\\t\\x00\\x1f\\x7f\xff\""),
+    (b"", b"\"\""),
+];
+
+const NUMBERS: [(i64, &[u8]); 4] = [
+    (0, b"0"),
+    (-7, b"-7"),
+    (9223372036854775807, b"9223372036854775807"),
+    (-9223372036854775808, b"-9223372036854775808"),
+];
+
+#[test]
+fn values_are_spelled(rt: HostRuntime) -> Result<(), Fail> {
+    for (bytes, spelling) in TEXTS {
+        let value = text(rt.alloc(), bytes)?;
+        assert!(rt; is_spelled(rt.alloc(), &value, spelling)?);
+    }
+    for (number, spelling) in NUMBERS {
+        assert!(rt; is_spelled(rt.alloc(), &Value::Int(number), spelling)?);
+    }
+    Ok(())
 }
 
 fn two_columns(alloc: Global) -> Result<Row, NoMemory> {
@@ -15,51 +58,15 @@ fn two_columns(alloc: Global) -> Result<Row, NoMemory> {
 }
 
 #[test]
-fn lists_grow(rt: HostRuntime) {
-    let mut list = List::new(rt.alloc());
-    assert_eq!(rt; list.push(7u8), Ok(()));
-    assert_eq!(rt; list.append(&[8, 9]), Ok(()));
-    let more = List::copy_of(rt.alloc(), &[1u8, 2]);
-    assert!(rt; matches!(&more, Ok(more) if more.as_slice() == [1u8, 2].as_slice()));
-    assert!(rt; list.as_slice() == [7u8, 8, 9].as_slice());
-}
-
-#[test]
-fn values_are_spelled(rt: HostRuntime) {
-    let alloc = rt.alloc();
-    for (bytes, spelling) in [
-        (b"ann".as_slice(), b"\"ann\"".as_slice()),
-        (b"q\"\\\nA", b"\"q\\\"\\\\\\nA\""),
-        (b"\r\t\x00\x1f\x7f\xff", b"\"\\r\\t\\x00\\x1f\\x7f\xff\""),
-        (b"", b"\"\""),
-    ] {
-        let mut out = List::new(alloc);
-        let value = text(alloc, bytes);
-        assert!(rt; matches!(&value, Ok(value) if value_text(alloc, value, &mut out).is_ok()));
-        assert!(rt; out.as_slice() == spelling);
-    }
-    for (number, spelling) in [
-        (0, b"0".as_slice()),
-        (-7, b"-7"),
-        (9223372036854775807, b"9223372036854775807"),
-        (-9223372036854775808, b"-9223372036854775808"),
-    ] {
-        let mut out = List::new(alloc);
-        assert!(rt; value_text(alloc, &Value::Int(number), &mut out).is_ok());
-        assert!(rt; out.as_slice() == spelling);
-    }
-}
-
-fn copied(alloc: Global) -> Result<(Row, Row), NoMemory> {
-    let row = two_columns(alloc)?;
-    let copy = row.copy(alloc)?;
-    Ok((row, copy))
+fn rows_are_copied(rt: HostRuntime) -> Result<(), Fail> {
+    let row = two_columns(rt.alloc())?;
+    let copy = row.copy(rt.alloc())?;
+    assert!(rt; copy.len() == 2 && copy.same(&row));
+    Ok(())
 }
 
 // A shared row, joined with a second handle of itself and with one of its own.
-fn joined(alloc: Global) -> Result<Row, NoMemory> {
-    let (own, shared) = copied(alloc)?;
-    let shared = shared.share(alloc)?;
+fn joined(alloc: Global, shared: &Row, own: &Row) -> Result<Row, NoMemory> {
     let mut parts = JoinedParts::with_room(alloc, 3)?;
     shared.join_to(alloc, &mut parts)?;
     shared.copy(alloc)?.join_to(alloc, &mut parts)?;
@@ -67,69 +74,63 @@ fn joined(alloc: Global) -> Result<Row, NoMemory> {
     Ok(Row::joined(parts))
 }
 
-#[test]
-fn rows_are_copied(rt: HostRuntime) {
-    let rows = copied(rt.alloc());
-    assert!(rt; matches!(&rows, Ok((row, copy)) if copy.len() == 2 && copy.same(row)));
+// The same as a pair of two handles of the shared row, paired with the other.
+fn paired(alloc: Global, shared: &Row, own: &Row) -> Result<Row, NoMemory> {
+    let pair = Row::pair(alloc, shared, shared)?;
+    Row::pair(alloc, &pair, own)
+}
+
+fn thrice(alloc: Global, by_pairs: bool) -> Result<Row, NoMemory> {
+    let own = two_columns(alloc)?;
+    let shared = own.copy(alloc)?.share(alloc)?;
+    if by_pairs {
+        paired(alloc, &shared, &own)
+    } else {
+        joined(alloc, &shared, &own)
+    }
 }
 
 #[test]
-fn rows_are_joined(rt: HostRuntime) {
-    let row = joined(rt.alloc());
-    assert!(rt; matches!(&row, Ok(row) if row.len() == 6 && row.at(5).same(row.at(1))));
-    assert!(rt;
-        matches!(&row, Ok(row) if matches!(row.get(4), Some(Value::Int(1))) && row.get(6).is_none())
-    );
-}
-
-// A pair of two handles of a shared row, paired with a row of its own.
-fn paired(alloc: Global) -> Result<Row, NoMemory> {
-    let (own, shared) = copied(alloc)?;
-    let shared = shared.share(alloc)?;
-    let pair = Row::pair(alloc, &shared, &shared)?;
-    Row::pair(alloc, &pair, &own)
-}
-
-#[test]
-fn rows_are_paired(rt: HostRuntime) {
-    let row = paired(rt.alloc());
-    let same = joined(rt.alloc());
-    assert!(rt; matches!((&row, &same), (Ok(row), Ok(same)) if row.len() == 6 && row.same(same)));
+fn rows_are_joined(rt: HostRuntime) -> Result<(), Fail> {
+    for by_pairs in [false, true] {
+        let row = thrice(rt.alloc(), by_pairs)?;
+        let other = thrice(rt.alloc(), !by_pairs)?;
+        assert!(rt; row.same(&other));
+        assert!(rt; row.len() == 6 && row.at(5).same(row.at(1)));
+        assert!(rt; matches!(row.get(4), Some(Value::Int(1))) && row.get(6).is_none());
+        let mut out = List::new(rt.alloc());
+        row.spell(rt.alloc(), &mut out)?;
+        assert!(rt; out.as_slice() == b" 1 \"ann\" 1 \"ann\" 1 \"ann\"".as_slice());
+    }
+    Ok(())
 }
 
 #[test]
-fn rows_are_spelled(rt: HostRuntime) {
-    let mut out = List::new(rt.alloc());
-    let row = joined(rt.alloc());
-    assert!(rt; matches!(&row, Ok(row) if row.spell(rt.alloc(), &mut out).is_ok()));
-    assert!(rt; out.as_slice() == b" 1 \"ann\" 1 \"ann\" 1 \"ann\"".as_slice());
-}
-
-#[test]
-fn spellings_are_kept(rt: HostRuntime) {
+fn spellings_are_kept(rt: HostRuntime) -> Result<(), Fail> {
     for bytes in [
         b"".as_slice(),
         b" 1 50",
         b" 123456 12345678",
         b" 123456 123456789",
     ] {
-        let spelling = Spelling::copy_of(rt.alloc(), bytes);
-        assert!(rt; matches!(&spelling, Ok(spelling) if spelling.bytes() == Some(bytes)));
+        let spelling = Spelling::copy_of(rt.alloc(), bytes)?;
+        assert!(rt; spelling.bytes() == Some(bytes));
     }
     assert!(rt; Spelling::none().bytes().is_none());
+    Ok(())
 }
 
 #[test]
-fn texts_have_parts(rt: HostRuntime) {
-    let text = SharedText::copy_of(rt.alloc(), b"ann");
-    assert!(rt; matches!(&text, Ok(text) if text.len() == 3));
-    assert!(rt;
-        matches!(&text, Ok(text) if matches!(&text.part(1, 3), Ok(part) if part.as_slice() == b"nn".as_slice()))
-    );
+fn texts_have_parts(rt: HostRuntime) -> Result<(), Fail> {
+    let text = SharedText::copy_of(rt.alloc(), b"ann")?;
+    assert!(rt; text.len() == 3);
+    assert!(rt; text.part(1, 3)?.as_slice() == b"nn".as_slice());
+    Ok(())
 }
 
 #[test]
-fn integers_come_first(rt: HostRuntime) {
-    let nine = text(rt.alloc(), b"9");
-    assert!(rt; matches!(&nine, Ok(nine) if Value::Int(10).order(nine) == Ordering::Less));
+fn integers_come_first(rt: HostRuntime) -> Result<(), Fail> {
+    let nine = text(rt.alloc(), b"9")?;
+    assert_eq!(rt; Value::Int(10).order(&nine), Ordering::Less);
+    Ok(())
 }

@@ -1,1 +1,1 @@
-pub mod ThreeInputs
+pub mod Askable

@@ -1,2 +1,3 @@
-pub mod ThreeInputs
+pub mod Joins
 pub mod MixedKinds
+pub mod ThreeInputs

@@ -2,9 +2,15 @@
 #![tactic(auto)]
 
 #[cfg(test)]
+mod cases;
+#[cfg(test)]
 mod certificates;
 #[cfg(test)]
+mod doors;
+#[cfg(test)]
 mod graphs;
+#[cfg(test)]
+mod joins;
 #[cfg(test)]
 mod plan_texts;
 #[cfg(test)]

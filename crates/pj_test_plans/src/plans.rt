@@ -1,15 +1,13 @@
 // What no clause says: that plans are built and copied with ample memory.
-ghost use Rattle.std.specs.Prelude.{◌≡◌, true, map, IfOk};
-ghost use Rattle.pj_plan.specs.Names.{AreSpelled, is_name, is_spelled};
-ghost use Rattle.pj_plan.specs.Laws.{what_of};
+ghost use Rattle.std.specs.Prelude.{◌≡◌, true, IfOk};
+ghost use Rattle.pj_plan.specs.Names.{is_spelled};
 
 use pj_plan::{ColumnWord, Plan, PlanFault, PlanStop, PlanWhy, Stated, Statement};
 use pj_value::{Kind, List, NoMemory};
 use std::alloc::Global;
 
-// A stream of one column.
-fn stream(alloc: Global, name: &[u8]) -> Result<Statement, NoMemory>
-    requires { is_name name.now ≡ true }
+// `stream a x:int`
+fn stream(alloc: Global) -> Result<Statement, NoMemory>
     ensures { IfOk result (λ statement. is_spelled statement ≡ true) }
 {
     let mut columns = List::new(alloc);
@@ -18,15 +16,26 @@ fn stream(alloc: Global, name: &[u8]) -> Result<Statement, NoMemory>
         kind: Kind::Int,
     })?;
     Ok(Statement::Stream {
-        name: List::copy_of(alloc, name)?,
+        name: List::copy_of(alloc, b"a")?,
         columns,
     })
 }
 
-// `plan 1`, and a stream.
-fn begun(alloc: Global) -> Result<List<Stated>, NoMemory>
-    ensures { IfOk result (λ statements. AreSpelled (map what_of statements)) }
+// The same again, or `output a`.
+fn last(alloc: Global, is_twice: bool) -> Result<Statement, NoMemory>
+    ensures { IfOk result (λ statement. is_spelled statement ≡ true) }
 {
+    if is_twice {
+        let again = stream(alloc)?;
+        return Ok(again);
+    }
+    Ok(Statement::Output {
+        name: List::copy_of(alloc, b"a")?,
+    })
+}
+
+// A plan of a stream, or one that states it twice.
+fn built(alloc: Global, is_twice: bool) -> Result<Plan, PlanStop> {
     let mut statements = List::new(alloc);
     statements.push(Stated {
         line: 1,
@@ -34,29 +43,11 @@ fn begun(alloc: Global) -> Result<List<Stated>, NoMemory>
     })?;
     statements.push(Stated {
         line: 2,
-        what: stream(alloc, b"a")?,
+        what: stream(alloc)?,
     })?;
-    Ok(statements)
-}
-
-// A plan of a stream alone.
-fn alone(alloc: Global) -> Result<Plan, PlanStop> {
-    let mut statements = begun(alloc)?;
-    statements.push(Stated {
-        line: 3,
-        what: Statement::Output {
-            name: List::copy_of(alloc, b"a")?,
-        },
-    })?;
-    Plan::build(alloc, statements.as_slice(), 4)
-}
-
-// A name that is given twice.
-fn twice(alloc: Global) -> Result<Plan, PlanStop> {
-    let mut statements = begun(alloc)?;
     statements.push(Stated {
         line: 5,
-        what: stream(alloc, b"a")?,
+        what: last(alloc, is_twice)?,
     })?;
     Plan::build(alloc, statements.as_slice(), 6)
 }
@@ -70,13 +61,13 @@ fn is_alone(plan: &Plan) -> bool {
 }
 
 fn copied(alloc: Global) -> Result<bool, PlanStop> {
-    let plan = alone(alloc)?;
+    let plan = built(alloc, false)?;
     Ok(is_alone(&plan) && is_alone(&plan.copy(alloc)?))
 }
 
 #[test]
 fn a_plan_is_built_and_copied(rt: HostRuntime) {
-    assert!(rt; copied(rt.alloc()) == Ok(true));
+    assert_eq!(rt; copied(rt.alloc()), Ok(true));
 }
 
 #[test]
@@ -85,5 +76,5 @@ fn the_first_fault_is_named(rt: HostRuntime) {
         line: 5,
         why: PlanWhy::NameTwice,
     };
-    assert!(rt; twice(rt.alloc()).err() == Some(PlanStop::Fault(fault)));
+    assert_eq!(rt; built(rt.alloc(), true).err(), Some(PlanStop::Fault(fault)));
 }

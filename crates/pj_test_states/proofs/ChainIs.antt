@@ -7,7 +7,7 @@ use Rattle.pj_shape.specs.declared.joins.ClassCol.{ClassCol}
 use Rattle.pj_value.specs.Lists.{In}
 use Rattle.pj_shape.specs.Sound.{IsSoundSpec, IsSoundClass, IsOfKind, FitSchemes, arities_of}
 use Rattle.pj_shape.specs.Certificates.{IsCertificate}
-use Rattle.pj_shape.proofs.Tested.{fit_if}
+use Rattle.pj_shape.proofs.Tested.{apart_if, fit_if}
 use Rattle.pj_puncts.specs.Stores.{Store}
 use Rattle.pj_cover.specs.Asking.{AreParts, HaveLength}
 use Rattle.pj_test_states.specs.Chain.{number, pair, pairs, at, firsts, seconds, chain, chain_schemes, chain_cert, two_rows}
@@ -35,27 +35,13 @@ chain-sound = record {
   few_classes = (omega arith, omega arith);
   few_columns = omega arith;
   sound_classes = λ class h. classes class h;
-  apart = ((λ other h c k. columns other h c k), ((λ other h. absurd h), tt));
+  apart = apart_if chain.classes refl;
 }
   where
     classes : (class : List ClassCol) → In class (firsts ∷ seconds ∷ []) → IsSoundClass pairs class
     classes class (inl e) = subst (IsSoundClass pairs) e (chain-class 0 1 0 0 (λ q. omega (arith, q)) (pair, number, refl, refl, refl) (pair, number, refl, refl, refl))
     classes class (inr (inl e)) = subst (IsSoundClass pairs) e (chain-class 1 2 1 1 (λ q. omega (arith, q)) (pair, number, refl, refl, refl) (pair, number, refl, refl, refl))
     classes class (inr (inr e)) = absurd e
-
-    column : (c : ClassCol) → In c firsts → c.column ≡ 0
-    column c (inl e) = sym (ap (λ (d : ClassCol). d.column) e)
-    column c (inr (inl e)) = sym (ap (λ (d : ClassCol). d.column) e)
-    column c (inr (inr e)) = absurd e
-
-    other_column : (c : ClassCol) → In c seconds → c.column ≡ 1
-    other_column c (inl e) = sym (ap (λ (d : ClassCol). d.column) e)
-    other_column c (inr (inl e)) = sym (ap (λ (d : ClassCol). d.column) e)
-    other_column c (inr (inr e)) = absurd e
-
-    columns : (other : List ClassCol) → In other (seconds ∷ []) → (c : ClassCol) → In c firsts → In c other → ⊥
-    columns other (inl e) c k m = omega (arith, column c k, other_column c (subst (λ (l : List ClassCol). In c l) (sym e) m))
-    columns other (inr e) c k m = absurd e
 
 pub chain_fits : FitSchemes chain.inputs chain_schemes
 chain_fits = fit_if chain.inputs chain_schemes refl

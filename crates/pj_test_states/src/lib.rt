@@ -4,6 +4,8 @@
 #[cfg(test)]
 mod covers;
 #[cfg(test)]
+mod doors;
+#[cfg(test)]
 mod flows;
 #[cfg(test)]
 mod groups;

@@ -17,48 +17,35 @@ struct Plain {
     letter: u8,
 }
 
-// What is looked for.
-#[derive(Clone, Copy)]
-enum Wanted {
-    Any,
-    Number(i64),
-    Letter(u8),
-}
-
-impl Wanted {
-    fn fits(&self, plain: &Plain) -> bool {
-        match self {
-            Wanted::Any => true,
-            Wanted::Number(number) => plain.number == *number,
-            Wanted::Letter(letter) => plain.letter == *letter,
-        }
+// The row with a ticket that a number draws.
+fn drawn(ticket: u64, draw: u64) -> Plain {
+    let letter = match draw / 8 % 3 {
+        0 => b'a',
+        1 => b'b',
+        _ => b'c',
+    };
+    Plain {
+        ticket,
+        number: (draw % 97) as i64 - 48,
+        letter,
     }
 }
 
-fn text(alloc: Global, letter: u8) -> Result<Value, NoMemory> {
-    Ok(Value::Text(SharedText::copy_of(alloc, &[letter])?))
-}
-
-fn shared(alloc: Global, plain: Plain) -> Result<Shared, NoMemory>
+fn shared(alloc: Global, plain: &Plain) -> Result<Shared, NoMemory>
     ensures { IfOk result (λ r. length r ≡ 2) }
 {
+    let text = SharedText::copy_of(alloc, &[plain.letter])?;
     let mut values = List::new(alloc);
     values.push(Value::Int(plain.number))?;
-    values.push(text(alloc, plain.letter)?)?;
+    values.push(Value::Text(text))?;
     Shared::new(alloc, Row::of(values))
 }
 
-fn has_number(value: &Value, number: i64) -> bool {
+// Whether the row has a value in a column.
+fn has(plain: &Plain, column: u32, value: &Value) -> bool {
     match value {
-        Value::Int(there) => *there == number,
-        Value::Text(_) => false,
-    }
-}
-
-fn has_letter(value: &Value, letter: u8) -> bool {
-    match value {
-        Value::Int(_) => false,
-        Value::Text(bytes) => bytes.as_slice() == [letter].as_slice(),
+        Value::Int(number) => column == 0 && *number == plain.number,
+        Value::Text(text) => column == 1 && text.as_slice() == [plain.letter].as_slice(),
     }
 }
 
@@ -66,7 +53,7 @@ fn is_row(row: &Row, plain: &Plain) -> bool {
     if row.len() != 2 {
         return false;
     }
-    has_number(row.at(0), plain.number) && has_letter(row.at(1), plain.letter)
+    has(plain, 0, row.at(0)) && has(plain, 1, row.at(1))
 }
 
 // Whether the ticket is greater than all that are there.
@@ -88,7 +75,7 @@ fn put(alloc: Global, state: &mut State, plain: Plain) -> Result<bool, NoMemory>
     if !is_later(state, plain.ticket) {
         return Ok(false);
     }
-    let row = shared(alloc, plain)?.share(alloc)?;
+    let row = shared(alloc, &plain)?.share(alloc)?;
     state.insert(plain.ticket, row)?;
     Ok(true)
 }
@@ -116,28 +103,18 @@ fn pull(state: &mut State, list: &mut Vec<Plain>, ticket: u64) -> bool
     }
 }
 
-// Whether the state has the rows of the list, in order.
+// Whether the state has the rows of the list, in order, and a cursor finds them that jumps from either end to the other.
 fn is_same(state: &State, list: &[Plain]) -> bool {
-    if state.len() != list.len() {
-        return false;
-    }
-    for at in 0..state.len() {
-        let (ticket, row) = state.nth(at);
-        if ticket != list[at].ticket || !is_row(row, &list[at]) {
-            return false;
-        }
-    }
-    true
-}
-
-// Whether a cursor that jumps from either end to the other finds the rows of the list.
-fn is_jumped_through(state: &State, list: &[Plain]) -> bool {
     let count = state.len();
     if count != list.len() {
         return false;
     }
     let mut cursor = state.cursor();
     for at in 0..count {
+        let (ticket, row) = state.nth(at);
+        if ticket != list[at].ticket || !is_row(row, &list[at]) {
+            return false;
+        }
         let place = if at % 2 == 0 { at } else { count - at };
         let (ticket, row) = cursor.nth(place);
         if ticket != list[place].ticket || !is_row(row, &list[place]) {
@@ -147,11 +124,20 @@ fn is_jumped_through(state: &State, list: &[Plain]) -> bool {
     true
 }
 
-// Whether these are the rows of the list with smaller tickets that fit, in order.
-fn are_found(found: &[(u64, Shared)], list: &[Plain], wanted: Wanted, below: u64) -> bool {
+// Whether these are the rows of the list with smaller tickets, in order, that have the value in the column, or all.
+fn are_found(
+    found: &[(u64, Shared)],
+    list: &[Plain],
+    wanted: Option<(u32, &Value)>,
+    below: u64,
+) -> bool {
     let mut at = 0;
     for plain in list {
-        if plain.ticket < below && wanted.fits(plain) {
+        let fits = match wanted {
+            None => true,
+            Some((column, value)) => has(plain, column, value),
+        };
+        if fits && plain.ticket < below {
             if at >= found.len() {
                 return false;
             }
@@ -164,11 +150,11 @@ fn are_found(found: &[(u64, Shared)], list: &[Plain], wanted: Wanted, below: u64
     at == found.len()
 }
 
-// Whether these are the tickets of the rows that fit, in order.
-fn are_tickets(tickets: &[u64], list: &[Plain], wanted: Wanted) -> bool {
+// Whether these are the tickets of the rows that have the value in the column, in order.
+fn are_tickets(tickets: &[u64], list: &[Plain], column: u32, value: &Value) -> bool {
     let mut at = 0;
     for plain in list {
-        if wanted.fits(plain) {
+        if has(plain, column, value) {
             if at >= tickets.len() || tickets[at] != plain.ticket {
                 return false;
             }
@@ -180,63 +166,68 @@ fn are_tickets(tickets: &[u64], list: &[Plain], wanted: Wanted) -> bool {
 
 fn finds_all(alloc: Global, state: &State, list: &[Plain], below: u64) -> Result<bool, NoMemory> {
     let found = state.all(alloc, below)?;
-    Ok(are_found(found.as_slice(), list, Wanted::Any, below))
-}
-
-fn finds_value(
-    alloc: Global,
-    state: &State,
-    list: &[Plain],
-    wanted: Wanted,
-    below: u64,
-) -> Result<bool, NoMemory>
-    requires { state.now.columns ≡ 0 ∷ 1 ∷ [] }
-{
-    match wanted {
-        Wanted::Any => finds_all(alloc, state, list, below),
-        Wanted::Number(number) => {
-            finds(alloc, state, list, wanted, 0, &Value::Int(number), below)
-        }
-        Wanted::Letter(letter) => {
-            finds(alloc, state, list, wanted, 1, &text(alloc, letter)?, below)
-        }
-    }
+    Ok(are_found(found.as_slice(), list, None, below))
 }
 
 fn finds(
     alloc: Global,
     state: &State,
     list: &[Plain],
-    wanted: Wanted,
     column: u32,
     value: &Value,
     below: u64,
 ) -> Result<bool, NoMemory>
     requires { In column state.now.columns }
 {
-    if !are_tickets(state.tickets(column, value), list, wanted) {
-        return Ok(false);
-    }
     let found = state.candidates(alloc, column, value, below)?;
-    Ok(are_found(found.as_slice(), list, wanted, below))
+    Ok(
+        are_found(found.as_slice(), list, Some((column, value)), below)
+            && are_tickets(state.tickets(column, value), list, column, value),
+    )
+}
+
+// The least integer of the list from one on; untold where no order is kept.
+fn next_in(list: &[Plain], from: i64, is_kept: bool) -> NextNumber {
+    if !is_kept {
+        return NextNumber::Untold;
+    }
+    let mut least = i64::MAX;
+    for plain in list {
+        if from <= plain.number {
+            least = least.min(plain.number);
+        }
+    }
+    if least == i64::MAX {
+        NextNumber::Nothing
+    } else {
+        NextNumber::At(least)
+    }
+}
+
+// Whether the state tells the next integer from one on, and of all, as the list does.
+fn tells(state: &State, list: &[Plain], from: i64, is_kept: bool) -> bool
+    requires { state.now.columns ≡ 0 ∷ 1 ∷ [] }
+{
+    state.next_number(0, Some(from)) == next_in(list, from, is_kept)
+        && state.next_number(0, None) == next_in(list, i64::MIN, is_kept)
+}
+
+// Whether each row is the same one where it is looked for near the last.
+fn is_near_same(matching: &Matching<'_>, near: &mut Spot) -> bool {
+    for at in 0..matching.len() {
+        let (ticket, row) = matching.nth(at);
+        let (near_ticket, near_row) = matching.nth_near(at, near);
+        if ticket != near_ticket || !row.same(near_row) {
+            return false;
+        }
+    }
+    true
 }
 
 // The next number of a small generator.
 fn next(seed: u64) -> u64 {
     seed.wrapping_mul(6364136223846793005)
         .wrapping_add(1442695040888963407)
-}
-
-fn number(draw: u64) -> i64 {
-    (draw % 97) as i64 - 48
-}
-
-fn letter(draw: u64) -> u8 {
-    match draw % 3 {
-        0 => b'a',
-        1 => b'b',
-        _ => b'c',
-    }
 }
 
 // Puts a row into both, or takes one out of both.
@@ -253,90 +244,56 @@ fn change(
     if draw % 5 > 2 {
         return Ok(pull(state, list, ticket.saturating_sub(draw % 200)));
     }
-    let plain = Plain {
-        ticket,
-        number: number(draw),
-        letter: letter(draw / 8),
-    };
+    let plain = drawn(ticket, draw);
     list.push(plain)?;
     put(alloc, state, plain)
 }
 
+// Whether the state finds the values of a row, and the rows below a ticket, as the list has them.
+fn finds_as(
+    alloc: Global,
+    state: &State,
+    list: &[Plain],
+    wanted: &Row,
+    below: u64,
+) -> Result<bool, NoMemory>
+    requires state { state.now.columns ≡ 0 ∷ 1 ∷ [] }
+    requires wanted { length wanted.now ≡ 2 }
+{
+    Ok(
+        finds_all(alloc, state, list, below)?
+            && finds(alloc, state, list, 0, wanted.at(0), below)?
+            && finds(alloc, state, list, 1, wanted.at(1), below)?,
+    )
+}
+
 // Whether the state agrees with the list, and finds what is there.
-fn agrees(alloc: Global, state: &State, list: &[Plain], draw: u64) -> Result<bool, NoMemory>
+fn agrees(
+    alloc: Global,
+    state: &State,
+    list: &[Plain],
+    step: (u64, u64),
+    near: &mut Spot,
+) -> Result<bool, NoMemory>
     requires { state.now.columns ≡ 0 ∷ 1 ∷ [] }
 {
-    let below = draw % 600;
-    for wanted in [
-        Wanted::Any,
-        Wanted::Number(number(draw)),
-        Wanted::Letter(letter(draw)),
-    ] {
-        if !finds_value(alloc, state, list, wanted, below)? {
-            return Ok(false);
-        }
+    let (ticket, draw) = step;
+    let plain = drawn(ticket, draw);
+    let wanted = shared(alloc, &plain)?;
+    if !finds_as(alloc, state, list, wanted.row(), draw % 600)? {
+        return Ok(false);
     }
-    Ok(is_same(state, list) && is_jumped_through(state, list))
-}
-
-// The least integer of the list from one on, or of all; untold where no order is kept.
-fn next_in(list: &[Plain], from: Option<i64>, is_kept: bool) -> NextNumber {
-    if !is_kept {
-        return NextNumber::Untold;
-    }
-    let mut least = NextNumber::Nothing;
-    for plain in list {
-        if is_from(plain.number, from) && is_less(plain.number, least) {
-            least = NextNumber::At(plain.number);
-        }
-    }
-    least
-}
-
-fn is_from(number: i64, from: Option<i64>) -> bool {
-    match from {
-        None => true,
-        Some(from) => from <= number,
-    }
-}
-
-fn is_less(number: i64, least: NextNumber) -> bool {
-    match least {
-        NextNumber::At(least) => number < least,
-        _ => true,
-    }
-}
-
-// Whether the state tells the next integer as the list does.
-fn tells(state: &State, list: &[Plain], is_kept: bool, from: Option<i64>) -> bool
-    requires { state.now.columns ≡ 0 ∷ 1 ∷ [] }
-{
-    state.next_number(0, from) == next_in(list, from, is_kept)
-}
-
-fn tells_next(state: &State, list: &[Plain], is_kept: bool, draw: u64) -> bool
-    requires { state.now.columns ≡ 0 ∷ 1 ∷ [] }
-{
-    tells(state, list, is_kept, Some(number(draw))) && tells(state, list, is_kept, None)
-}
-
-// Whether each row is the same one where it is looked for near the last.
-fn is_near_same(matching: &Matching<'_>, near: &mut Spot) -> bool {
-    for at in 0..matching.len() {
-        let (ticket, row) = matching.nth(at);
-        let (near_ticket, near_row) = matching.nth_near(at, near);
-        if ticket != near_ticket || !row.same(near_row) {
-            return false;
-        }
-    }
-    true
+    Ok(
+        is_same(state, list)
+            && tells(state, list, plain.number, ticket >= KEPT)
+            && is_near_same(&state.matching(1, wanted.row().at(1)), near),
+    )
 }
 
 // How many of these steps agree with the list, up to the first that does not.
 fn run(alloc: Global, state: &mut State, list: &mut Vec<Plain>, count: u64) -> Result<u64, NoMemory>
     requires { state.old.columns ≡ 0 ∷ 1 ∷ [] }
 {
-    let wanted = text(alloc, b'a')?;
     let mut near = Spot::new();
     let mut seed = 7;
     for ticket in 0..count {
@@ -347,13 +304,13 @@ fn run(alloc: Global, state: &mut State, list: &mut Vec<Plain>, count: u64) -> R
         if !change(alloc, state, list, ticket, seed >> 33)? {
             return Ok(ticket);
         }
-        if !agrees(alloc, state, list.as_slice(), seed >> 40)? {
-            return Ok(ticket);
-        }
-        if !tells_next(state, list.as_slice(), ticket >= KEPT, seed >> 40) {
-            return Ok(ticket);
-        }
-        if !is_near_same(&state.matching(1, &wanted), &mut near) {
+        if !agrees(
+            alloc,
+            state,
+            list.as_slice(),
+            (ticket, seed >> 40),
+            &mut near,
+        )? {
             return Ok(ticket);
         }
     }
