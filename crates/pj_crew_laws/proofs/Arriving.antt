@@ -18,4 +18,5 @@ feeders-bring hub planned acts history crew stream old new end did told =
     let front = fed.front told in record {
       front = (front.0, front.1 ∙ ap (λ (es : List Element). es ++ front.0) (sym own));
       whole = λ is. own ∙ fed.whole (ap has_ended is) told;
+      less = λ is. let less = fed.less is told in (less.0, less.1 ∙ ap (λ (es : List Element). es ++ less.0) (sym own));
     }

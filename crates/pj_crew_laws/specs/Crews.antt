@@ -6,11 +6,11 @@ use Rattle.pj_events.specs.Join.{has}
 use Rattle.pj_events.specs.Plan.{ArePlanned}
 use Rattle.pj_events.specs.History.{reached_of, streams_of}
 use Rattle.pj_events.specs.Outcomes.{drained_of, elements_of, outputs_of}
-use Rattle.pj_feed.specs.Feeds.{FeedState}
+use Rattle.pj_feed.specs.Feeds.{FeedState, all_accepted}
 use Rattle.pj_laws.specs.Seats.{HubPlan, stop_of}
 use Rattle.pj_laws.specs.SettlingHistories.{EachTakeIsGiven}
 use Rattle.pj_pattern.specs.declared.element.Element.{Element}
-use Rattle.pj_workers.specs.Feeds.{all_of}
+use Rattle.pj_workers.specs.Feeds.{all_of, has_ended}
 use Rattle.pj_workers.specs.declared.feeding.FeedEnd.{FeedEnd}
 use Rattle.pj_workers.specs.declared.feeding.FeedEnd.TheVariants.{Ended, Halted}
 use Rattle.pj_crew_laws.specs.Acts.{Act, Fed, IsCrewHistory, is_fault, is_whole, is_writer, stop_told}
@@ -56,10 +56,12 @@ NoneStops hub acts history = OfEach acts (λ act. stop_told act ≡ None) → st
 
 -- ---- what arrived
 
--- what arrived at a stream of a file that tells its bytes is a front of all that it brings, and all of it where its feeder ended
+-- what arrived at a stream of a file that tells its bytes is a front of all that it brings, all of it where its feeder ended, and else
+-- a front of its accepted elements
 pub record ArrivesOf (hub : HubPlan) (history : List Entry) (stream : ℕ) (new : FeedState) (end : FeedEnd) : Type 0 where
   pub front : (others : List Element) × (all_of hub new ≡ elements_of stream history ++ others)
   pub whole : end ≡ Ended → elements_of stream history ≡ all_of hub new
+  pub less : has_ended end ≡ false → (others : List Element) × (all_accepted new ≡ elements_of stream history ++ others)
 
 abbrev pub FeedersBring : HubPlan → List Act → List Entry → Type 0
 FeedersBring hub acts history = (stream : ℕ) (old new : FeedState) (end : FeedEnd) → Did acts stream (Fed old new end) → IsTrue old.source.told → ArrivesOf hub history stream new end

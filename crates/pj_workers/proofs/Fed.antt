@@ -39,22 +39,25 @@ fresh-stands hub seat feed number columns still fed none = record {
 
 -- a feeder that did not end
 module _ (hub : HubPlan) (n : ℕ) (own more : List Entry) (first feed new : FeedState) (f : IsFeeding hub n own feed) (since : IsSameFeed first feed) (same : IsSameFeed feed new) (none : elements_of n more ≡ elements_of n own) where
-  fed-front : IsTrue first.source.told → (others : List Element) × (all_of hub new ≡ elements_of n more ++ others)
-  fed-front t =
+  fed-less : IsTrue first.source.told → (others : List Element) × (all_accepted new ≡ elements_of n more ++ others)
+  fed-less t =
       let told : IsTrue feed.source.told = subst IsTrue (sym since.told) t in
       let b = begins_with feed f.accepted.fed told in
       let all : all_accepted new ≡ all_accepted feed = ap₂ (λ (columns : List Column) (bytes : List ℕ). taken_of (fates_of columns bytes)) same.columns (same.bytes told) in
-      let rest : List Element = closing_of hub new.stream ∷ [] in (
-        b.0 ++ rest,
-        ap (λ (es : List Element). es ++ rest) (all ∙ (b.1 ∙ ap (λ (es : List Element). es ++ b.0) (sym f.accepted.are ∙ sym none)))
-            ∙ append_assoc (elements_of n more) b.0 rest,
-      )
+      (b.0, all ∙ (b.1 ∙ ap (λ (es : List Element). es ++ b.0) (sym f.accepted.are ∙ sym none)))
+
+  fed-front : IsTrue first.source.told → (others : List Element) × (all_of hub new ≡ elements_of n more ++ others)
+  fed-front t =
+      let less = fed-less t in
+      let rest : List Element = closing_of hub new.stream ∷ [] in
+      (less.0 ++ rest, ap (λ (es : List Element). es ++ rest) less.1 ∙ append_assoc (elements_of n more) less.0 rest)
 
   pub fed-none : (end : FeedEnd) → has_ended end ≡ false → is_closed n more ≡ false → IsGiven hub end first new (elements_of n more) → HasFed hub n more first new end
   fed-none end other closed given = record {
     given = given;
     front = fed-front;
     whole = λ is. absurd (true≢false (sym is ∙ other));
+    less = λ is. fed-less;
     closed = closed ∙ sym other;
   }
 
@@ -64,6 +67,7 @@ fed-ended hub n more first new since given shut closed = record {
   given = (given, shut);
   front = λ t. ([], sym (whole t) ∙ sym (append-nil (elements_of n more)));
   whole = λ is. whole;
+  less = λ is. absurd (true≢false is);
   closed = closed;
 }
   where

@@ -120,11 +120,13 @@ abbrev pub all_of : HubPlan → FeedState → List Element
 all_of hub feed = all_accepted feed ++ closing_of hub feed.stream ∷ []
 
 -- What a seat has made arrive that fed from one state of a feed to another, however it ended. Where the file tells its bytes it is
--- a front of all that the file brings, and all of it where the feeder ended; the stream is closed exactly there
+-- a front of all that the file brings, all of it where the feeder ended, and else a front of the accepted elements; the stream is
+-- closed exactly where it ended
 pub record HasFed (hub : HubPlan) (seat : ℕ) (own : List Entry) (old new : FeedState) (end : FeedEnd) : Type 0 where
   pub given : IsGiven hub end old new (elements_of seat own)
   pub front : IsTrue old.source.told → (others : List Element) × (all_of hub new ≡ elements_of seat own ++ others)
   pub whole : OnEnded end (IsTrue old.source.told → elements_of seat own ≡ all_of hub new)
+  pub less : has_ended end ≡ false → IsTrue old.source.told → (others : List Element) × (all_accepted new ≡ elements_of seat own ++ others)
   pub closed : is_closed seat own ≡ has_ended end
 
 -- ---- kept rows
