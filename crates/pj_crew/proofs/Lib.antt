@@ -1,0 +1,5 @@
+mod Zips
+mod Places
+mod Beginnings
+pub mod Endings
+mod Histories

@@ -1,0 +1,4 @@
+pub mod Duties
+pub mod Tasks
+pub mod Seats
+pub mod Crews
