@@ -1,0 +1,5 @@
+mod Work
+mod Stops
+mod Ends
+mod Counts
+mod Running

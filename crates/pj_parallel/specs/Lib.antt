@@ -1,0 +1,4 @@
+pub mod Settling
+pub mod Closing
+pub mod Parallel
+pub mod Concluding
