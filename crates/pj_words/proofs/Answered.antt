@@ -124,7 +124,7 @@ flag_is name parts e = ap is_told e ∙ told_back (has_option name (options_in p
 run_is : (parts : List Part) → IsLine run_form parts → found_by Running (found_rows run_shape run_form parts) ≡ request_by Running (said_in parts)
 run_is parts line =
     let r = run_rows parts line in
-    let workers = ap (number_or 0) (number_value run_shape run_form parts (codes "workers") line refl refl refl) in
+    let workers = ap (number_or 2) (number_value run_shape run_form parts (codes "workers") line refl refl refl) in
     let limit = ap (number_or 1099511627776) (number_value run_shape run_form parts (codes "limit") line refl refl refl) in
     let sorted = flag_is (codes "sorted") parts (flag_value run_shape run_form parts (codes "sorted") line refl refl refl) in
     let trace = flag_is (codes "trace") parts (flag_value run_shape run_form parts (codes "trace") line refl refl refl) in
@@ -163,7 +163,7 @@ operand_number id seed most least rows is fits text e =
 
 pub found_fits : (k : Subcommand) (parts : List Part) → IsLine (form_of k) parts → IsFound k (found_rows (shape_of k) (form_of k) parts)
 found_fits Running parts line = record {
-  workers = number_found run_shape run_form parts line (codes "workers") 0 refl refl refl refl;
+  workers = number_found run_shape run_form parts line (codes "workers") 16 refl refl refl refl;
   limit = number_found run_shape run_form parts line (codes "limit") 1099511627776 refl refl refl refl;
   sorted = flag_told (has_option (codes "sorted") (options_in parts)) (flag_value run_shape run_form parts (codes "sorted") line refl refl refl);
   trace = flag_told (has_option (codes "trace") (options_in parts)) (flag_value run_shape run_form parts (codes "trace") line refl refl refl);

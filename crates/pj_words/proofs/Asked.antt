@@ -168,7 +168,7 @@ run_keeps parts line =
     let fit = subst (λ (xs : List (List Text)). fit_operands run_form.operands xs ≡ true) o.are line.operands in
     let plan = both (is_operand o.plan) _ fit in
     let files = both (list_all is_operand (o.first ∷ o.more)) _ plan.1 in
-    let workers = option_between run_form (codes "workers") 0 0 0 parts refl refl line (record { low = omega arith; high = omega arith }) in
+    let workers = option_between run_form (codes "workers") 0 16 2 parts refl refl line (record { low = omega arith; high = omega arith }) in
     let limit = option_between run_form (codes "limit") 1 1099511627776 1099511627776 parts refl refl line (record { low = omega arith; high = omega arith }) in
     rw (run_texts parts o) (record {
       plan_operand = plan.0;

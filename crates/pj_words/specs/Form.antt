@@ -54,7 +54,7 @@ run_form = record {
   command = codes "run";
   operands = record { id = codes "plan"; kind = one } ∷ record { id = codes "files"; kind = several } ∷ [];
   flags = codes "sorted" ∷ codes "trace" ∷ codes "check" ∷ [];
-  numbers = record { name = codes "workers"; least = 0; most = 0 } ∷ limit ∷ [];
+  numbers = record { name = codes "workers"; least = 0; most = 16 } ∷ limit ∷ [];
 }
 
 abbrev pub replay_form : Form

@@ -21,7 +21,7 @@ limit_in rows = number_in (codes "limit") 1099511627776 rows
 
 -- the request of what clap found
 abbrev pub found_by : Subcommand → List Row → Request
-found_by Running rows = Run (text_in (codes "plan") rows) (texts_in (codes "files") rows) (number_in (codes "workers") 0 rows) (flag_in (codes "sorted") rows)
+found_by Running rows = Run (text_in (codes "plan") rows) (texts_in (codes "files") rows) (number_in (codes "workers") 2 rows) (flag_in (codes "sorted") rows)
     (flag_in (codes "trace") rows) (flag_in (codes "check") rows) (limit_in rows)
 found_by Replaying rows = Replay (text_in (codes "plan") rows) (text_in (codes "script") rows) (texts_in (codes "files") rows) (flag_in (codes "trace") rows)
     (limit_in rows)
@@ -37,7 +37,7 @@ abbrev pub IsFlag : Text → List Row → Type 0
 IsFlag id rows = (one_of id rows ≡ Some (codes "true")) ⊎ (one_of id rows ≡ Some (codes "false"))
 
 pub record IsRunFound (rows : List Row) : Type 0 where
-  pub workers : FitsNumber (codes "workers") 0 rows
+  pub workers : FitsNumber (codes "workers") 16 rows
   pub limit : FitsNumber (codes "limit") 1099511627776 rows
   pub sorted : IsFlag (codes "sorted") rows
   pub trace : IsFlag (codes "trace") rows

@@ -32,7 +32,7 @@ limit_said said = number_said (codes "limit") 1099511627776 said
 
 -- the request of a line
 abbrev pub request_by : Subcommand → Said → Request
-request_by Running said = Run (word_at 0 said) (drop 1 said.operands) (number_said (codes "workers") 0 said) (said.given (codes "sorted"))
+request_by Running said = Run (word_at 0 said) (drop 1 said.operands) (number_said (codes "workers") 2 said) (said.given (codes "sorted"))
     (said.given (codes "trace")) (said.given (codes "check")) (limit_said said)
 request_by Replaying said = Replay (word_at 0 said) (word_at 1 said) (drop 2 said.operands) (said.given (codes "trace")) (limit_said said)
 request_by Checking said = Check (word_at 0 said) (said.given (codes "print"))
@@ -134,7 +134,7 @@ pub record IsRun (plan : Text) (files : List Text) (workers : ℕ) (sorted : Boo
   pub plan_operand : is_operand plan ≡ true
   pub file_operands : list_all is_operand files ≡ true
   pub some_file : 1 ≤ length files
-  pub workers_most : workers ≤ 0
+  pub workers_most : workers ≤ 16
   pub limit_least : 1 ≤ limit
   pub limit_most : limit ≤ 1099511627776
   pub not_both : (sorted && trace) ≡ false

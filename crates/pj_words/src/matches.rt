@@ -94,12 +94,20 @@ fn digits_of(text: &str) -> u64
     }
 }
 
-/// The number of an operand or option, at most `most`, as 32 bits; `other` where it was not given.
+/// The number of an operand, at most `most`, as 32 bits.
 fn small_of(matches: &ArgMatches<'_>, id: &str, most: u32) -> u32
     requires fits { FitsNumber id.now most (rows_of (found_of matches.now)) }
     ensures { result ≡ number_in id.now 0 (rows_of (found_of matches.now)) }
 {
     number_of(matches, id, 0, most as u64) as u32
+}
+
+/// How many workers there are, 2 where that was not given.
+fn workers_of(matches: &ArgMatches<'_>) -> u32
+    requires { FitsNumber (codes "workers") 16 (rows_of (found_of matches.now)) }
+    ensures { result ≡ number_in (codes "workers") 2 (rows_of (found_of matches.now)) }
+{
+    number_of(matches, "workers", 2, 16) as u32
 }
 
 fn limit_of(matches: &ArgMatches<'_>) -> u64
@@ -116,7 +124,7 @@ fn run_request(alloc: Global, matches: &ArgMatches<'_>) -> Result<Request, NoMem
     Ok(Request::Run {
         plan: text_of(alloc, matches, "plan")?,
         files: texts_of(alloc, matches, "files")?,
-        workers: small_of(matches, "workers", 0),
+        workers: workers_of(matches),
         sorted: has_flag(matches, "sorted"),
         trace: has_flag(matches, "trace"),
         check: has_flag(matches, "check"),

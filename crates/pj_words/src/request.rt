@@ -19,7 +19,8 @@ pub enum Request {
         plan: Bytes,
         /// FILE, the names of the inputs in their order; at least one.
         files: List<Bytes>,
-        /// `--workers N`, how many threads look for partners besides the one that reads and writes. Only 0 is there, the default.
+        /// `--workers N`, how many threads look for partners beside those that read and the one that writes, 0 to 16; 0 is one thread for all.
+        /// 2 is the default.
         workers: u32,
         /// `--sorted`, the rows are written sorted and before all punctuations; by default as they come. Not together with `trace`.
         sorted: bool,

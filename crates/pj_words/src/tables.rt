@@ -128,7 +128,7 @@ pub(crate) fn range_of(command: Subcommand, name: Name) -> Option<(u64, u64)>
     ensures { IsRangeOf command (name_text name) result }
 {
     match (command, name) {
-        (Subcommand::Run, Name::Workers) => Some((0, 0)),
+        (Subcommand::Run, Name::Workers) => Some((0, 16)),
         (Subcommand::Run, Name::Limit) => Some((1, 1_099_511_627_776)),
         (Subcommand::Replay, Name::Limit) => Some((1, 1_099_511_627_776)),
         _ => None,
