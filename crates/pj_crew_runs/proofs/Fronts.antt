@@ -1,5 +1,5 @@
 -- What arrives in the history of a crew that runs a job.
-use Rattle.std.proofs.Common.{ℕ, ◌<◌, ◌+◌, Bool, true, false, List, [], ◌∷◌, ◌++◌, ◌≡◌, Some, get_or, length, slice_get, refl, sym, ap, ap₂, ◌∙◌, subst, arith}
+use Rattle.std.proofs.Common.{ℕ, ◌<◌, true, List, [], ◌∷◌, ◌++◌, ◌≡◌, Some, get_or, length, slice_get, refl, sym, ap₂, ◌∙◌, arith}
 use Rattle.std.proofs.lemmas.Bool.{false≢true}
 use Rattle.std.proofs.lemmas.Option.{slice_get-get_or}
 use Rattle.pj_shape.specs.declared.columns.Column.{Column}
@@ -7,8 +7,7 @@ use Rattle.pj_pattern.specs.declared.element.Element.{Element}
 use Rattle.pj_element.specs.Accepted.{fates_of, taken_of}
 use Rattle.pj_events.specs.declared.events.Entry.{Entry}
 use Rattle.pj_events.specs.History.{streams_of}
-use Rattle.pj_events.specs.Outcomes.{elements_of}
-use Rattle.pj_laws.specs.HistoryLaws.{AllAreCertified, closed_list}
+use Rattle.pj_laws.specs.HistoryLaws.{closed_list}
 use Rattle.pj_plan.specs.Nodes.{streams_in}
 use Rattle.pj_plan.specs.Sound.{IsSoundPlan}
 use Rattle.pj_core.proofs.Planned.{planned}
@@ -21,8 +20,8 @@ use Rattle.pj_seats.specs.Answers.{closing_of}
 use Rattle.pj_workers.specs.Feeds.{all_of, has_ended}
 use Rattle.pj_workers.specs.declared.feeding.FeedEnd.{FeedEnd}
 use Rattle.pj_workers.specs.declared.feeding.FeedEnd.TheVariants.{Ended, Halted, ReadFault, ByteLimit, NoMemory, Stopped}
-use Rattle.pj_crew_laws.specs.Acts.{Act, Fed, is_whole}
-use Rattle.pj_crew_laws.specs.Crews.{AllWhole, ArrivesOf}
+use Rattle.pj_crew_laws.specs.Acts.{Act, Fed}
+use Rattle.pj_crew_laws.specs.Crews.{ArrivesOf}
 use Rattle.pj_crew_laws.proofs.Arriving.{feeders-bring}
 use Rattle.pj_crew_runs.specs.Runs.{BringsFronts, FedFrom, IsCrewRun, OfCrewRuns, hub_of}
 
@@ -44,13 +43,20 @@ module _ (job : Job) (sound : IsSoundPlan job.nodes) (feeds : List FeedState) (a
       first [] lt' = absurd (omega (arith, lt'))
       first (f ∷ fs) lt' = (get_or (f ∷ fs) stream f, slice_get-get_or (f ∷ fs) stream f lt')
 
+  -- what is accepted of its file
+  pub accepted-is : (stream : ℕ) (feed new : FeedState) → slice_get feeds stream ≡ Some feed → IsSameFeed feed new → get_or (accepted_of (streams_in job.nodes) (files_of feeds)) stream [] ≡ all_accepted new
+  accepted-is stream feed new at same =
+      accepted_of_feed 0 (streams_in job.nodes) feeds stream feed run.of_streams at
+      ∙ sym (ap₂ (λ (columns : List Column) (bytes : List ℕ). taken_of (fates_of columns bytes)) same.columns (same.bytes (told_at feeds stream feed run.told at)))
+
+  -- the number of its stream
+  pub number-is : (stream : ℕ) (feed new : FeedState) → slice_get feeds stream ≡ Some feed → IsSameFeed feed new → new.stream ≡ stream
+  number-is stream feed new at same = same.stream ∙ ((one_of 0 (streams_in job.nodes) feeds stream feed run.of_streams at).is_number ∙ omega (arith))
+
   -- all that its file brings
   pub brought-is : (stream : ℕ) (feed new : FeedState) → slice_get feeds stream ≡ Some feed → IsSameFeed feed new → all_of (hub_of job) new ≡ closed_list (run_nodes job) (accepted_of (streams_in job.nodes) (files_of feeds)) stream
   brought-is stream feed new at same =
-      let one = one_of 0 (streams_in job.nodes) feeds stream feed run.of_streams at in
-      let all : all_accepted new ≡ all_accepted feed = ap₂ (λ (columns : List Column) (bytes : List ℕ). taken_of (fates_of columns bytes)) same.columns (same.bytes (told_at feeds stream feed run.told at)) in
-      let number : new.stream ≡ stream = same.stream ∙ (one.is_number ∙ omega (arith)) in
-      ap₂ (λ (es : List Element) (s : ℕ). es ++ closing_of (hub_of job) s ∷ []) (all ∙ sym (accepted_of_feed 0 (streams_in job.nodes) feeds stream feed run.of_streams at)) number
+      ap₂ (λ (es : List Element) (s : ℕ). es ++ closing_of (hub_of job) s ∷ []) (sym (accepted-is stream feed new at same)) (number-is stream feed new at same)
 
   -- what arrived at a stream
   pub arrives : (stream : ℕ) (feed : FeedState) → slice_get feeds stream ≡ Some feed → (fed : FedFrom acts stream feed) × ArrivesOf (hub_of job) history stream fed.new fed.end

@@ -1,5 +1,5 @@
 -- What a crew that ended its streams comes to, once its core is settled.
-use Rattle.std.proofs.Common.{ℕ, ◌<◌, true, false, List, [], ◌∷◌, ◌++◌, ◌≡◌, length, refl, sym, ap, ap₂, ◌∙◌, subst, append_assoc, append-nil}
+use Rattle.std.proofs.Common.{ℕ, ◌<◌, true, List, [], ◌∷◌, ◌++◌, ◌≡◌, length, sym, ap, ap₂, ◌∙◌, subst, append_assoc, append-nil}
 use Rattle.pj_pattern.specs.declared.element.Element.{Element}
 use Rattle.pj_events.specs.declared.events.Entry.{Entry}
 use Rattle.pj_events.specs.declared.events.Event.TheVariants.{Drain}
@@ -23,7 +23,7 @@ use Rattle.pj_core_laws.specs.Settling.{HasEnded}
 use Rattle.pj_core_laws.proofs.Settles.{settled-is-complete}
 use Rattle.pj_feed.specs.Feeds.{FeedState, accepted_of, files_of}
 use Rattle.pj_run.specs.Jobs.{Job}
-use Rattle.pj_run.specs.Runs.{outs_by, plan_run, run_nodes}
+use Rattle.pj_run.specs.Runs.{plan_run, run_nodes}
 use Rattle.pj_run.proofs.Arrivals.{none-from, none-swept}
 use Rattle.pj_crew_laws.specs.Acts.{Act, Fed}
 use Rattle.pj_crew_laws.specs.Crews.{AllWhole, FeedsAll, HasEndedAll}

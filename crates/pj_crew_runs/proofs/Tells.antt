@@ -1,5 +1,5 @@
 -- What the ends of workers tell of the history.
-use Rattle.std.proofs.Common.{ℕ, ◌⊎◌, inl, inr, true, false, List, [], ◌∷◌, ◌++◌, ◌≡◌, Option, Some, None, slice_get, IsTrue, refl, sym, ap, ◌∙◌, subst, append_assoc, append-nil}
+use Rattle.std.proofs.Common.{ℕ, ◌⊎◌, inl, inr, true, false, List, [], ◌∷◌, ◌++◌, ◌≡◌, Option, Some, None, refl, sym, ap, ◌∙◌, subst, append_assoc}
 use Rattle.std.proofs.lemmas.Bool.{true≢false}
 use Rattle.pj_events.specs.declared.events.Entry.{Entry}
 use Rattle.pj_events.specs.declared.events.Event.{Event}
@@ -7,11 +7,9 @@ use Rattle.pj_events.specs.declared.events.Event.TheVariants.{Arrive, Take as Ta
 use Rattle.pj_events.specs.declared.events.Stop.{Stop}
 use Rattle.pj_events.specs.declared.events.Stop.TheVariants.{Limit, NoMemory as CoreMemory}
 use Rattle.pj_events.specs.Outcomes.{elements_of}
-use Rattle.pj_laws.specs.HistoryLaws.{AllAreCertified}
 use Rattle.pj_events.specs.History.{stop_after}
 use Rattle.pj_laws.specs.Seats.{AreStopsDue, IsDue, IsStopDue, StopsWhereDue, made_by, stop_from}
 use Rattle.pj_laws.proofs.Feeding.{elements-own}
-use Rattle.pj_plan.specs.Sound.{IsSoundPlan}
 use Rattle.pj_core.proofs.Planned.{planned}
 use Rattle.pj_feed.specs.Feeds.{FeedState}
 use Rattle.pj_feed.proofs.AllFeeds.{told_at}
@@ -25,10 +23,10 @@ use Rattle.pj_workers.specs.declared.feeding.FeedEnd.TheVariants.{Ended, Halted,
 use Rattle.pj_workers.specs.declared.writing.WriteEnd.{WriteEnd}
 use Rattle.pj_workers.specs.declared.writing.WriteEnd.TheVariants.{Over as WriteOver, WriteFault, NoMemory as WriteMemory}
 use Rattle.pj_crew_laws.specs.Acts.{Act, Fed, Probed, Swept as SweptAct, Wrote, feed_stop, is_fault, is_feed_fault, is_whole, is_work_fault, is_work_whole, is_write_fault, is_write_whole, stop_told, work_stop}
-use Rattle.pj_crew_laws.specs.Crews.{Did, OfEach}
+use Rattle.pj_crew_laws.specs.Crews.{Did}
 use Rattle.pj_crew_laws.proofs.Makers.{own-seen}
 use Rattle.pj_crew_laws.proofs.Stopping.{halts-have-cause, stops-are-told}
-use Rattle.pj_crew_runs.specs.Runs.{ArrivesOfLarge, IsCrewRun, LargeFilesTell, LimitsTell, MeetsLimit, OfCrewRuns, QuietAreWhole, ReadsTell, hub_of}
+use Rattle.pj_crew_runs.specs.Runs.{IsCrewRun, LargeFilesTell, LimitsTell, MeetsLimit, OfCrewRuns, QuietAreWhole, ReadsTell, hub_of}
 
 module _ (job : Job) (feeds : List FeedState) (acts : List Act) (history : List Entry) (run : IsCrewRun job feeds acts history) where
   -- what the seat of a stream made arrive is what arrived there

@@ -1,4 +1,5 @@
 // Laws of crews that run a job.
+ghost use Rattle.pj_crew_runs.specs.Limits.{LimitsHaveCause, SettlingLimitsHaveCause};
 ghost use Rattle.pj_crew_runs.specs.Runs.{BringsFronts, HandsOutAll, LargeFilesTell, LimitsTell, OfCrewRuns, QuietAreWhole, ReadsTell, SettlesWhole};
 
 /// What the history of a crew comes to, however its workers ended: it is legal and within the limit, and of each stream a front of
@@ -21,4 +22,12 @@ pub fn crews_tell()
     ensures large { OfCrewRuns LargeFilesTell }
     ensures limits { OfCrewRuns LimitsTell }
     ensures quiet { OfCrewRuns QuietAreWhole }
+{}
+
+/// Where a worker tells the limit of a node, or that limit is met as the core is settled behind a crew of which each worker has done
+/// all of its duty, the node is a join or a group, and more elements come to it in all than may: of the accepted elements of the
+/// files, and their closings.
+pub fn crews_limit()
+    ensures told { OfCrewRuns LimitsHaveCause }
+    ensures settled { OfCrewRuns SettlingLimitsHaveCause }
 {}

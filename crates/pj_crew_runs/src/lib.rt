@@ -3,4 +3,4 @@
 
 mod laws;
 
-pub use laws::{crews_run, crews_settle, crews_tell};
+pub use laws::{crews_limit, crews_run, crews_settle, crews_tell};
