@@ -1,5 +1,5 @@
 -- What is counted against a run is so of some worker.
-use Rattle.std.proofs.Common.{◌≡◌, ◌⊎◌, ◌<◌, ℕ, zero, suc, ◌+◌, arith, Bool, List, [], ◌∷◌, ◌++◌, length, slice_get, Option, Some, None, inl, inr, refl, sym, ap, ◌∙◌, subst}
+use Rattle.std.proofs.Common.{◌≡◌, ◌⊎◌, ℕ, zero, suc, ◌+◌, arith, Bool, List, [], ◌∷◌, ◌++◌, slice_get, Option, Some, None, inl, inr, refl, sym, ap, ◌∙◌, subst}
 use Rattle.std.specs.List.{AllZip}
 use Rattle.std.proofs.lemmas.Option.{slice_get_within}
 use Rattle.pj_value.specs.declared.values.Value.{Value}
@@ -8,7 +8,6 @@ use Rattle.pj_events.specs.declared.events.Stop.{Stop}
 use Rattle.pj_events.specs.declared.events.Stop.TheVariants.{Limit, NoMemory}
 use Rattle.pj_feed.specs.Feeds.{FeedState}
 use Rattle.pj_laws.specs.Seats.{HubPlan}
-use Rattle.pj_workers.specs.declared.ends.WorkEnd.{WorkEnd}
 use Rattle.pj_workers.specs.declared.ends.WorkEnd.TheVariants.{Over, NoMemory as WorkMemory, Stopped as WorkStopped}
 use Rattle.pj_workers.specs.declared.feeding.FeedEnd.{FeedEnd}
 use Rattle.pj_workers.specs.declared.feeding.FeedEnd.TheVariants.{Ended, Halted, ReadFault, ByteLimit, NoMemory as FeedMemory, Stopped as FeedStopped}

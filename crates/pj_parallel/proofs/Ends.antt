@@ -1,5 +1,5 @@
 -- What a run with workers leaves, by how its crew ended and how its core was closed.
-use Rattle.std.proofs.Common.{ℕ, ◌≡◌, ◌⊎◌, true, List, [], ◌∷◌, ◌++◌, Option, Some, None, Result, Ok, Err, IsTrue, inl, inr, refl, sym, ap, ◌∙◌, subst, append_assoc, append-nil}
+use Rattle.std.proofs.Common.{ℕ, ◌≡◌, true, List, [], ◌∷◌, ◌++◌, Option, Some, None, Result, Ok, Err, IsTrue, inl, inr, refl, sym, ap, ◌∙◌, subst, append_assoc, append-nil}
 use Rattle.pj_io.specs.States.{SinkState}
 use Rattle.pj_pattern.specs.declared.element.Element.{Element}
 use Rattle.pj_events.specs.declared.events.Entry.{Entry}
@@ -7,7 +7,7 @@ use Rattle.pj_events.specs.declared.events.Event.TheVariants.{Stopped}
 use Rattle.pj_events.specs.declared.events.Out.{Out}
 use Rattle.pj_events.specs.declared.events.Stop.{Stop}
 use Rattle.pj_events.specs.declared.events.Stop.TheVariants.{Limit as CoreLimit, NoMemory as CoreMemory}
-use Rattle.pj_events.specs.History.{IsLegal, nodes_from, reached_of, streams_of}
+use Rattle.pj_events.specs.History.{IsLegal, nodes_from, reached_of}
 use Rattle.pj_events.specs.Limits.{BeginsBeyond, StaysWithin}
 use Rattle.pj_events.specs.OneThread.{plain}
 use Rattle.pj_events.specs.Outcomes.{drained_of, elements_of, elements_out, outputs_of}
@@ -17,17 +17,14 @@ use Rattle.pj_laws.proofs.HistoryAnswers.{fronts-are-legal}
 use Rattle.pj_laws.proofs.Limits.{within-append}
 use Rattle.pj_laws.proofs.OneRun.{elements-append}
 use Rattle.pj_laws.proofs.Steps.{elements-append as outs-elements}
-use Rattle.pj_plan.specs.declared.node.PlanNode.{PlanNode}
-use Rattle.pj_plan.specs.Nodes.{streams_in}
 use Rattle.pj_plan.specs.Sound.{IsSoundPlan}
 use Rattle.pj_core.specs.Cores.{CoreState, StandsFor, nodes_in}
 use Rattle.pj_core.specs.Plans.{RunPlan, nodes_of}
-use Rattle.pj_core.specs.Turns.{Finishes, finishing, working}
+use Rattle.pj_core.specs.Turns.{Finishes, finishing}
 use Rattle.pj_core.proofs.Planned.{planned}
-use Rattle.pj_feed.specs.Feeds.{FeedState, accepted_of, files_of}
+use Rattle.pj_feed.specs.Feeds.{FeedState, files_of}
 use Rattle.pj_report.specs.declared.stops.WriteStop.{WriteStop}
 use Rattle.pj_report.specs.declared.stops.WriteStop.TheVariants.{Failed, NoMemory as LineMemory}
-use Rattle.pj_report.specs.declared.writer.ResultWriter.{ResultWriter}
 use Rattle.pj_report.specs.Forms.{shown, taken_so_far}
 use Rattle.pj_report.specs.Written.{FrontOf, WholeLines, WritesBy, anywhere, between, flat, write_cut}
 use Rattle.pj_report.proofs.Forms.{shown-append}
@@ -39,19 +36,22 @@ use Rattle.pj_run.specs.declared.stops.TurnStop.TheVariants.{Limit as TurnLimit,
 use Rattle.pj_run.specs.declared.stops.RunStop.{RunStop}
 use Rattle.pj_run.specs.declared.stops.RunStop.TheVariants.{ReadFault, TooLarge, Limit, Refused, WriteFailed, NoMemory, Cut, CutRead, CutLarge, CutRefused}
 use Rattle.pj_run.specs.Stops.{of_turn}
-use Rattle.pj_script_laws.specs.Laws.{BringsFront}
 use Rattle.pj_workers.specs.Writes.{IsWritten}
 use Rattle.pj_workers.specs.declared.writing.WriteEnd.{WriteEnd}
 use Rattle.pj_workers.specs.declared.writing.WriteEnd.TheVariants.{Over, WriteFault, NoMemory as WriteMemory}
 use Rattle.pj_crew_laws.specs.Acts.{Act}
 use Rattle.pj_crew_laws.specs.Crews.{AllWhole, WritesAlone}
 use Rattle.pj_crew_laws.proofs.Draining.{writer-drains-all}
+use Rattle.pj_crew_runs.specs.Limits.{ComesBeyond}
 use Rattle.pj_crew_runs.specs.Runs.{IsCrewRun, IsFrontHistory, IsSettled, hub_of}
 use Rattle.pj_crew_runs.proofs.Fronts.{brings-fronts}
 use Rattle.pj_crew_runs.proofs.Settled.{hands-out-all, settles-whole}
-use Rattle.pj_parallel.specs.Closing.{ClosesOver, Closes, IsOfCrew, RunState, StopsAtSettling, WritesRest, cut_of, cut_where, rest_end}
+use Rattle.pj_crew.proofs.Endings.{some-is}
+use Rattle.pj_parallel.specs.Closing.{ClosesOver, Closes, IsOfCrew, RunState, cut_of, cut_where, rest_end}
 use Rattle.pj_parallel.specs.Parallel.{CutTells, IsDone, IsStopped, LimitTells, StopLeaves, StopTells}
-use Rattle.pj_parallel.specs.Settling.{CameTo, SettlesInto, StopsSettling, TurnLeft}
+use Rattle.pj_parallel.specs.Settling.{CameTo, SettlesInto, SettleStops, StopsSettling, TurnLeft}
+use Rattle.pj_parallel.proofs.Causing.{limit-in}
+use Rattle.pj_crew_runs.proofs.Limiting.{settling-limits-have-cause}
 use Rattle.pj_parallel.proofs.Work.{work-brings-nothing}
 
 first-none : {X : Type 0} (xs ys : List X) → xs ++ ys ≡ [] → xs ≡ []
@@ -152,17 +152,26 @@ module _ (job : Job) (sound : IsSoundPlan job.nodes) (certified : AllAreCertifie
           (b.0, ap (λ (es : List Element). es ++ b.0) same ∙ b.1);
     }
 
+  begins-some : (outs : List Out) (node : ℕ) (s : StopsSettling now.core c.history outs (CoreLimit node)) → BeginsBeyond job.limit (run_nodes job) (c.history ++ s.some.front) s.some.back node
+  begins-some outs node s =
+      subst (λ n. BeginsBeyond n (run_nodes job) (c.history ++ s.some.front) s.some.back node) c.limit
+      (subst (λ ns. BeginsBeyond now.core.limit ns (c.history ++ s.some.front) s.some.back node) (ap nodes_of c.plan) s.some.stops)
+
   beyond-some : (outs : List Out) (node : ℕ) (s : StopsSettling now.core c.history outs (CoreLimit node)) → LimitTells job (c.history ++ s.some.front) node
-  beyond-some outs node s = inr (record {
-    core = now.core;
-    before = c.history;
-    stood = c.stood;
-    front = s.some.front;
-    back = s.some.back;
-    parts = s.some.parts;
-    made = refl;
-    beyond = subst (λ n. BeginsBeyond n (run_nodes job) (c.history ++ s.some.front) s.some.back node) c.limit (subst (λ ns. BeginsBeyond now.core.limit ns (c.history ++ s.some.front) s.some.back node) (ap nodes_of c.plan) s.some.stops);
-  })
+  beyond-some outs node s =
+      inr (record { core = now.core; before = c.history; stood = c.stood; front = s.some.front; back = s.some.back; parts = s.some.parts; made = refl; beyond = begins-some outs node s })
+
+  -- more elements come to the node of a limit that was met then than may
+  comes-beyond : AllWhole acts → (outs : List Out) (node : ℕ) → StopsSettling now.core c.history outs (CoreLimit node) → ComesBeyond job (files_of feeds) node
+  comes-beyond whole outs node s =
+      settling-limits-have-cause job sound certified feeds acts c.history c.run whole now.core c.plan c.limit c.stood s.some.front s.some.back node s.some.parts (front-some outs (CoreLimit node) s).within (begins-some outs node s)
+
+  pub settling-cause : AllWhole acts → (turn : TurnStop) (new : CoreState) (sink : SinkState) → SettleStops now.results.form now.core new now.sink sink turn → (node : ℕ) → limit-in turn ≡ Some node → ComesBeyond job (files_of feeds) node
+  settling-cause whole (TurnLimit n) new sink s node is = let at = s c.history c.stood in comes-beyond whole at.outs node (subst (λ k. StopsSettling now.core c.history at.outs (CoreLimit k)) (some-is n node is) at.came)
+  settling-cause whole TurnFailed new sink s node is = absurd (cc)
+  settling-cause whole TurnMemory new sink s node is = absurd (cc)
+  settling-cause whole (TurnCut (CoreLimit n)) new sink s node is = let at = s c.history c.stood in comes-beyond whole at.outs node (subst (λ k. StopsSettling now.core c.history at.outs (CoreLimit k)) (some-is n node is) at.came)
+  settling-cause whole (TurnCut CoreMemory) new sink s node is = absurd (cc)
 
   cut-some : (outs : List Out) (stop : Stop) (s : StopsSettling now.core c.history outs stop) → CutTells stop job (c.history ++ s.some.front)
   cut-some outs (CoreLimit node) s = beyond-some outs node s

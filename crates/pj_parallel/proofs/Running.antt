@@ -1,5 +1,5 @@
 -- A run with workers, from what its crew has done to what it leaves.
-use Rattle.std.proofs.Common.{ℕ, zero, suc, ◌+◌, ◌≡◌, ◌≤◌, ◌<◌, ◌⊎◌, arith, Bool, true, false, List, [], ◌∷◌, ◌++◌, map, length, slice_get, Option, Some, None, Result, Ok, Err, IfErr, IfOk, IsTrue, inl, inr, refl, sym, ap, ap₂, ◌∙◌, subst, append-nil, if◌then◌else◌}
+use Rattle.std.proofs.Common.{ℕ, zero, suc, ◌+◌, ◌≡◌, ◌≤◌, ◌^◌, ◌⊎◌, arith, Bool, true, false, List, [], ◌∷◌, ◌++◌, map, length, slice_get, Option, Some, None, Result, Ok, Err, IfErr, IfOk, OnOk, IsTrue, inl, inr, refl, sym, ap, ap₂, ◌∙◌, subst, append-nil, if◌then◌else◌}
 use Rattle.std.specs.List.{AllZip}
 use Rattle.std.proofs.lemmas.Bool.{true≢false}
 use Rattle.pj_io.specs.States.{SinkState}
@@ -9,15 +9,14 @@ use Rattle.pj_pattern.specs.Elements.{rows_of}
 use Rattle.pj_pattern.proofs.Elements.{rows_of-append}
 use Rattle.pj_plan.specs.declared.node.PlanNode.{PlanNode}
 use Rattle.pj_plan.specs.Nodes.{streams_in}
-use Rattle.pj_events.specs.declared.events.Entry.{Entry}
-use Rattle.pj_events.specs.declared.events.Stop.TheVariants.{Limit as CoreLimit}
-use Rattle.pj_laws.specs.Seats.{HubPlan, made_by, stop_of}
+use Rattle.pj_events.specs.declared.events.Out.{Out}
+use Rattle.pj_laws.specs.Seats.{HubPlan, made_by}
 use Rattle.pj_laws.proofs.Lists.{stop-reached}
 use Rattle.pj_core.specs.Cores.{CoreState, nodes_in}
 use Rattle.pj_core.specs.Plans.{RunPlan, nodes_of, run_plan}
 use Rattle.pj_core.proofs.Planned.{planned}
 use Rattle.pj_events.specs.History.{begun}
-use Rattle.pj_events.specs.Outcomes.{elements_of}
+use Rattle.pj_events.specs.Outcomes.{elements_of, elements_out}
 use Rattle.std.proofs.lemmas.Option.{slice_get_within}
 use Rattle.pj_shape.specs.declared.columns.Column.{Column}
 use Rattle.pj_element.specs.Accepted.{fates_of, taken_of}
@@ -30,23 +29,26 @@ use Rattle.pj_report.specs.Written.{WholeLines}
 use Rattle.pj_laws.specs.HistoryLaws.{closed_list}
 use Rattle.pj_run.specs.declared.run.Writing.{Writing}
 use Rattle.pj_run.specs.declared.stops.RunStop.{RunStop}
-use Rattle.pj_run.specs.declared.stops.RunStop.TheVariants.{ReadFault as RunRead, TooLarge, Limit as RunLimit, NoMemory as RunMemory}
+use Rattle.pj_run.specs.declared.stops.RunStop.TheVariants.{NoMemory as RunMemory}
+use Rattle.pj_run.specs.Cuts.{run_cut}
 use Rattle.pj_run.specs.Jobs.{Job}
-use Rattle.pj_run.specs.Outcome.{AreAccepted}
+use Rattle.pj_run.specs.PlanNames.{HasShortNames}
 use Rattle.pj_run.specs.Runs.{IsNewCore, accepted_rows, job_in, outs_by, plan_run, run_nodes}
-use Rattle.pj_workers.specs.Feeds.{IsGiven, all_of}
+use Rattle.pj_run.specs.Whole.{HasTaken, WritesWhole, WroteWhole}
+use Rattle.pj_run.proofs.WholeLaws.{none_wrote, wrote_same}
+use Rattle.pj_workers.specs.Feeds.{IsGiven}
 use Rattle.pj_workers.specs.Writes.{IsWritten, drained_in}
 use Rattle.pj_workers.specs.declared.feeding.FeedEnd.{FeedEnd}
-use Rattle.pj_workers.specs.declared.feeding.FeedEnd.TheVariants.{Ended as FeedEnded, ReadFault, ByteLimit}
+use Rattle.pj_workers.specs.declared.feeding.FeedEnd.TheVariants.{Ended as FeedEnded, Halted as FeedHalted, ReadFault, ByteLimit, NoMemory as FeedMemory, Stopped as FeedStopped}
 use Rattle.pj_workers.specs.declared.writing.WriteEnd.{WriteEnd}
-use Rattle.pj_workers.specs.declared.writing.WriteEnd.TheVariants.{Over, WriteFault, NoMemory as WriteMemory}
+use Rattle.pj_workers.specs.declared.writing.WriteEnd.TheVariants.{Over, WriteFault}
 use Rattle.pj_hub.specs.declared.made.MadeWith.{MadeWith}
 use Rattle.pj_hub.specs.Hubs.{hub_with, made_with, plan_of}
-use Rattle.pj_crew_laws.specs.Acts.{Act, Fed, IsCrewHistory, Wrote, is_fault, is_writer, stop_told}
+use Rattle.pj_crew_laws.specs.Acts.{Act, Fed, HasActed, IsCrewHistory, Wrote, feed_stop, is_fault, is_feed_fault, stop_told}
 use Rattle.pj_crew_laws.specs.Crews.{AllWhole, Did, OfEach, WritesAlone}
-use Rattle.pj_crew_laws.proofs.Stopping.{none-stops}
-use Rattle.pj_crew_runs.specs.Runs.{FedFrom, IsCrewRun, hub_of}
-use Rattle.pj_crew_runs.proofs.Fronts.{ended-is}
+use Rattle.pj_crew_laws.proofs.Stopping.{halts-have-cause, none-stops}
+use Rattle.pj_crew_runs.specs.Limits.{ComesBeyond}
+use Rattle.pj_crew_runs.specs.Runs.{IsCrewRun, hub_of}
 use Rattle.pj_crew_runs.proofs.Tells.{large-files-tell, limits-tell, quiet-are-whole, reads-tell}
 use Rattle.pj_crew.specs.declared.crew.Ended.{Ended}
 use Rattle.pj_crew.specs.declared.duties.Duty.{Duty}
@@ -57,18 +59,21 @@ use Rattle.pj_crew.proofs.Endings.{in-front, some-is}
 use Rattle.pj_roster.specs.declared.causes.Causes.{Causes}
 use Rattle.pj_roster.specs.Assigned.{AreAssigned, AreOthers, feeders}
 use Rattle.pj_roster.specs.Dismissed.{causes_in, feeds_in, no_causes, rows_in}
-use Rattle.pj_roster.specs.Rosters.{FedAt, FedEach, rows_accepted, rows_kept}
+use Rattle.pj_roster.specs.Rosters.{FedEach, rows_accepted, rows_kept}
 use Rattle.pj_roster.proofs.Begins.{begins}
 use Rattle.pj_roster.proofs.FedEach.{feed-each}
 use Rattle.pj_roster.proofs.Keeps.{keep-all}
 use Rattle.pj_roster.proofs.Tells.{none-told}
 use Rattle.pj_parallel.specs.declared.run.Settled.{Settled}
-use Rattle.pj_parallel.specs.Closing.{Closes, ClosesOver, IsOfCrew, file_stop, first_of, node_stop, read_stop, run_state}
+use Rattle.pj_parallel.specs.Causes.{FileFailed, IsTooLarge, OutputCause, StopCause}
+use Rattle.pj_parallel.specs.Closing.{IsOfCrew, file_stop, first_of, node_stop, read_stop, run_state}
 use Rattle.pj_parallel.specs.Concluding.{Concludes, Gathers, IsConcluded, IsCutShort}
-use Rattle.pj_parallel.specs.Settling.{SettlesInto}
 use Rattle.pj_parallel.specs.Parallel.{ArrivesLarge, ArrivesUntil, IsStopped, LimitTells, StopTells}
-use Rattle.pj_parallel.proofs.Counts.{act-there, feeder-did, files-by, nodes-by, reads-by, told-is}
-use Rattle.pj_parallel.proofs.Ends.{Came, is-done, is-stopped}
+use Rattle.pj_parallel.proofs.Causing.{first-cause, short-cause}
+use Rattle.pj_crew_runs.proofs.Limiting.{limits-have-cause}
+use Rattle.pj_parallel.proofs.Lines.{EndsWell, WroteUntil, ends-well, short-whole, well-whole, wrote-until}
+use Rattle.pj_parallel.proofs.Counts.{FeederAt, FeederDid, act-there, feeder-did, files-by, nodes-by, reads-by, told-is}
+use Rattle.pj_parallel.proofs.Ends.{Came, is-done, is-stopped, settling-cause}
 
 -- ---- lists
 
@@ -155,6 +160,15 @@ of-crew causes = memory causes.memory causes.read causes.node causes.file
     memory false None None (Some s) = tt
     memory false None None None = tt
 
+-- a feeder without a fault that no stop was told ended, or was halted
+quiet-end : (end : FeedEnd) → is_feed_fault end ≡ false → feed_stop end ≡ None → (end ≡ FeedEnded) ⊎ (end ≡ FeedHalted)
+quiet-end FeedEnded fault stop = inl refl
+quiet-end FeedHalted fault stop = inr refl
+quiet-end ReadFault fault stop = absurd (true≢false fault)
+quiet-end ByteLimit fault stop = absurd (true≢false fault)
+quiet-end FeedMemory fault stop = absurd (true≢false fault)
+quiet-end (FeedStopped s) fault stop = absurd (cc)
+
 -- ---- a crew that did not begin
 
 fed-others : {S : Type 0} (nodes : List PlanNode) (others : List (Duty S)) → AreOthers nodes others → (feeds_in others ≡ []) × (rows_in others ≡ [])
@@ -181,6 +195,9 @@ nothing-done job feeds news before after same = record {
   written = λ t. subst (λ (s : SinkState). WholeLines (shown job.form job.nodes (outs_by job [])) before.written s.written) (sym same)
       (record { first = []; others = shown job.form job.nodes (outs_by job []); all = refl; written = sym (append-nil before.written) });
 }
+
+pub nothing-written : (before after : SinkState) → after ≡ before → WritesWhole {T = Settled} run_cut before after (Err RunMemory)
+nothing-written before after same told = wrote_same before.written before.written after.written (ap (λ (s : SinkState). s.written) same) (none_wrote before.written)
 
 -- ---- before
 
@@ -257,6 +274,35 @@ module _ (writing : Writing) (core : CoreState) (fresh : IsNewCore core) (nodes 
             ran.stands.stands.3
             ∙ (stop-reached ended.core.plan.trace (begun (nodes_in ended.core)) ran.history
             ∙ none-stops (hub_of job) (planned (plan_run job) fresh.sound) all-acts ran.history crew (λ seat act did. (quiet seat act did).1))
+
+        -- every feeder ended its stream
+        each-ended : (k : ℕ) (old new : FeedState) (end : FeedEnd) → Did all-acts k (Fed old new end) → end ≡ FeedEnded
+        each-ended k old new end did = elim (quiet-end end (quiet k (Fed old new end) did).0 (quiet k (Fed old new end) did).1) [
+          | inl is ↦ is
+          | inr halted ↦
+              let cause = halts-have-cause (hub_of job) (planned (plan_run job) fresh.sound) all-acts ran.history crew k old new (subst (λ (e : FeedEnd). Did all-acts k (Fed old new e)) halted did) in
+              absurd (true≢false (sym cause.3 ∙ (quiet cause.0 cause.1 cause.2).0))
+        ]
+
+        closed : CameOf IsClosed feeds (feeds_in news)
+        closed k old new p q =
+            let f = fed-each.each k (slice_get_within feeds k old p) in
+            let did = in-front acts (Wrote ended.end ∷ []) (Fed f.old f.new f.end) k f.did in
+            let acted = (crew.each k (Fed f.old f.new f.end) did).2 in
+            let given = subst (λ (e : FeedEnd). IsGiven (hub_of job) e f.old f.new (elements_of k (made_by k (crew.each k (Fed f.old f.new f.end) did).0))) (each-ended k f.old f.new f.end did) acted.2.given in
+            subst (IsClosed old) (some-is f.new new (sym f.is ∙ q))
+            (record { same = subst (λ (x : FeedState). IsSameFeed x f.new) (some-is f.old old (sym f.was ∙ p)) acted.0; fed = given.0.has.fed; shut = given.1 })
+
+        pub all-closed : AreFeeds 0 (streams_in core.plan.nodes) (feeds_in news) × AllClosed (feeds_in news)
+        all-closed = closed-feeds 0 (streams_in core.plan.nodes) feeds (feeds_in news) of fed-each.count closed
+
+        pub all-taken : AreAllTaken (feeds_in news)
+        all-taken = all_taken 0 (streams_in core.plan.nodes) (feeds_in news) all-closed.0 all-closed.1
+
+      -- nothing stopped a run that was made to its end
+      well : (last : SinkState) (settled : Settled) → IsConcluded writing.check ended after last settled
+          → EndsWell (first_of (causes_in news)) ended.end (run_state ended.core ended.results after) (run_state settled.core settled.gathered.results last)
+      well last settled c = ends-well (first_of (causes_in news)) ended.end (run_state ended.core ended.results after) (run_state settled.core settled.gathered.results last) c.closes
 
       -- ---- where files tell their bytes
 
@@ -339,70 +385,37 @@ module _ (writing : Writing) (core : CoreState) (fresh : IsNewCore core) (nodes 
 
         -- ---- what is gathered
 
-        module _ (whole : AllWhole all-acts) where
-          closed : CameOf IsClosed feeds (feeds_in news)
-          closed k old new p q = go f.end refl
-            where
-              f : FedAt feeds duties news k
-              f = fed-each.each k (slice_get_within feeds k old p)
-
-              did : Did all-acts k (Fed f.old f.new f.end)
-              did = in-front acts (Wrote ended.end ∷ []) (Fed f.old f.new f.end) k f.did
-
-              go : (end : FeedEnd) → end ≡ f.end → IsClosed old new
-              go end q' =
-                  let is-ended : f.end ≡ FeedEnded = ended-is f.end (whole k (Fed f.old f.new f.end) did) in
-                  let given = subst (λ (e : FeedEnd). IsGiven (hub_of job) e f.old f.new (elements_of k (made_by k (crew.each k (Fed f.old f.new f.end) did).0))) is-ended (crew.each k (Fed f.old f.new f.end) did).2.2.given in
-                  let is : f.new ≡ new = some-is f.new new (sym f.is ∙ q) in
-                  subst (IsClosed old) is (record { same = subst (λ (x : FeedState). IsSameFeed x f.new) (some-is f.old old (sym f.was ∙ p)) (crew.each k (Fed f.old f.new f.end) did).2.0; fed = given.0.has.fed; shut = given.1 })
-
-          all-closed : AreFeeds 0 (streams_in core.plan.nodes) (feeds_in news) × AllClosed (feeds_in news)
-          all-closed = closed-feeds 0 (streams_in core.plan.nodes) feeds (feeds_in news) of fed-each.count closed
-
+        module _ (none : first_of (causes_in news) ≡ None) (over : ended.end ≡ Over) where
           pub tallied : tallies_in (feeds_in news) ≡ tallies_of (streams_in job.nodes) (files_of feeds)
           tallied =
-              all_tallied 0 (streams_in core.plan.nodes) (feeds_in news) all-closed.0 all-closed.1 (told_still feeds (feeds_in news) same-all told)
+              all_tallied 0 (streams_in core.plan.nodes) (feeds_in news) (all-closed none over).0 (all-closed none over).1 (told_still feeds (feeds_in news) same-all told)
               ∙ ap (tallies_of (streams_in core.plan.nodes)) (files_still feeds (feeds_in news) same-all told)
-
-          pub all-taken : AreAllTaken (feeds_in news)
-          all-taken = all_taken 0 (streams_in core.plan.nodes) (feeds_in news) all-closed.0 all-closed.1
 
           -- the acts of all but the writer
           whole-acts : AllWhole acts
-          whole-acts seat act did = whole seat act (in-front acts (Wrote ended.end ∷ []) act seat did)
+          whole-acts seat act did = all-whole none over seat act (in-front acts (Wrote ended.end ∷ []) act seat did)
 
           pub rows-gathered : writing.check ≡ true → rows_in news ≡ accepted_rows job (files_of feeds)
           rows-gathered asked =
               keep-all S (hub_with (made_with core)) core.plan.nodes writing.check feeds duties news assigned ran.same told whole-acts
               ∙ (ap (λ (b : Bool). rows_kept (hub_with (made_with core)) b (feeds_in news)) asked
-              ∙ (rows-are (hub_with (made_with core)) 0 (streams_in core.plan.nodes) (feeds_in news) all-closed.0
+              ∙ (rows-are (hub_with (made_with core)) 0 (streams_in core.plan.nodes) (feeds_in news) (all-closed none over).0
               ∙ ap (λ (fs : List (List ℕ)). map rows_of (accepted_of (streams_in core.plan.nodes) fs)) (files_still feeds (feeds_in news) same-all told)))
 
         -- ---- how it is concluded
 
         module _ (last : SinkState) (still : IsTrue last.told → IsTrue after.told) where
           pub gathers : (settled : Settled) → IsConcluded writing.check ended after last settled → Gathers job feeds (feeds_in news) before last settled
-          gathers settled c = by-end ended.end refl c.closes
-            where
-              done : first_of (causes_in news) ≡ None → ended.end ≡ Over → SettlesInto ended.core settled.core ended.results settled.gathered.results after last → Gathers job feeds (feeds_in news) before last settled
-              done none over s =
-                  let whole = all-whole none over in record {
-                    done = is-done job fresh.sound fresh.certified feeds all-acts ended.end before (run_state ended.core ended.results after) came whole over (run_state settled.core settled.gathered.results last) s still;
-                    on = s.finishes.makes.on;
-                    tallies = tallied whole;
-                    taken = all-taken whole;
-                    asked = c.asked;
-                    rows = λ asked. c.rows ∙ rows-gathered whole (sym c.asked ∙ asked);
-                  }
-
-              by-first : (f : Option RunStop) → f ≡ first_of (causes_in news) → ended.end ≡ Over → ClosesOver f (run_state ended.core ended.results after) (run_state settled.core settled.gathered.results last) (Ok tt) → Gathers job feeds (feeds_in news) before last settled
-              by-first None q over s = done (sym q) over s
-              by-first (Some stop) q over s = absurd s
-
-              by-end : (e : WriteEnd) → e ≡ ended.end → Closes (first_of (causes_in news)) e (run_state ended.core ended.results after) (run_state settled.core settled.gathered.results last) (Ok tt) → Gathers job feeds (feeds_in news) before last settled
-              by-end Over q closes = by-first (first_of (causes_in news)) refl (sym q) closes
-              by-end WriteFault q closes = absurd (cc closes.0)
-              by-end WriteMemory q closes = absurd (cc closes.0)
+          gathers settled c =
+              let w = well last settled c in
+              let closing = run_state settled.core settled.gathered.results last in record {
+                done = is-done job fresh.sound fresh.certified feeds all-acts ended.end before (run_state ended.core ended.results after) came (all-whole w.none w.over) w.over closing w.settles still;
+                on = w.settles.finishes.makes.on;
+                tallies = tallied w.none w.over;
+                taken = all-taken w.none w.over;
+                asked = c.asked;
+                rows = λ asked. c.rows ∙ rows-gathered w.none w.over (sym c.asked ∙ asked);
+              }
 
           pub cut-short : (stop : RunStop) → IsCutShort ended after last stop → IsStopped job feeds (feeds_in news) stop before last
           unfolding came
@@ -417,3 +430,90 @@ module _ (writing : Writing) (core : CoreState) (fresh : IsNewCore core) (nodes 
           pub ended-short : (r : Result Settled RunStop) → Concludes writing.check ended after last r → IfErr r (λ stop. IsStopped job feeds (feeds_in news) stop before last)
           ended-short (Ok settled) c = tt
           ended-short (Err stop) c = cut-short stop c
+
+      -- ---- whatever files and output tell
+
+      module _ (last : SinkState) where
+        pub same-plan : (r : Result Settled RunStop) → Concludes writing.check ended after last r → IfOk r (λ settled. settled.core.plan ≡ core.plan)
+        same-plan (Ok settled) c = (well last settled c).settles.finishes.makes.plan ∙ core-is
+        same-plan (Err stop) c = tt
+
+        pub still-on : (r : Result Settled RunStop) → Concludes writing.check ended after last r → IfOk r (λ settled. settled.core.kept.stop ≡ None)
+        still-on (Ok settled) c = (well last settled c).settles.finishes.makes.on
+        still-on (Err stop) c = tt
+
+        pub taken-all : (r : Result Settled RunStop) → Concludes writing.check ended after last r → OnOk r (AreAllTaken (feeds_in news))
+        taken-all (Ok settled) c = let w = well last settled c in all-taken w.none w.over
+        taken-all (Err stop) c = tt
+
+        -- what the writer drained
+        abbrev drained : List Out
+        drained = drained_in (hub_with (made_with core)) (length duties) ran.history
+
+        wrote-at : (end : WriteEnd) → ended.end ≡ end → IsWritten end nodes results ended.results before after drained
+        wrote-at end is = subst (λ (e : WriteEnd). IsWritten e nodes results ended.results before after drained) is ran.wrote
+
+        pub taken-in-form : (r : Result Settled RunStop) → Concludes writing.check ended after last r → IfOk r (λ settled. HasTaken writing.form settled.gathered.results)
+        taken-in-form (Ok settled) c =
+            let w = well last settled c in
+            let es : List Element = [] ++ elements_out drained in
+            (es ++ elements_out w.settles.outs, w.settles.taken writing.form es ((wrote-at Over w.over).0 writing.form [] results-are))
+        taken-in-form (Err stop) c = tt
+
+        short-names : HasShortNames ended.core.plan.nodes
+        short-names = subst HasShortNames (sym (ap (λ (p : RunPlan). p.nodes) core-is)) fresh.names
+
+        pub whole-lines : (r : Result Settled RunStop) → Concludes writing.check ended after last r → (IsTrue last.told → IsTrue after.told) → WritesWhole run_cut before last r
+        whole-lines r c still told = go r c
+          where
+            so-far : WroteUntil ended.end before.written after.written
+            so-far = wrote-until ended.end nodes results ended.results before after drained (subst HasShortNames (sym of-nodes) fresh.names) (still told) ran.wrote
+
+            go : (r : Result Settled RunStop) → Concludes writing.check ended after last r → WroteWhole run_cut before last r
+            go (Ok settled) c =
+                let w = well last settled c in
+                well-whole before (run_state ended.core ended.results after) (run_state settled.core settled.gathered.results last) short-names told
+                (subst (λ (e : WriteEnd). WroteUntil e before.written after.written) w.over so-far) w.settles
+            go (Err stop) c =
+                short-whole before (run_state ended.core ended.results after) (run_state c.core c.results last) short-names told ran.history ran.stands (first_of (causes_in news)) (of-crew (causes_in news)) ended.end so-far stop c.closes
+
+        -- ---- causes
+
+        -- a feeder that ended so
+        did-of : (stream : ℕ) (end : FeedEnd) → FeederAt news stream end → FeederDid feeds duties news stream end
+        did-of = feeder-did (hub_with (made_with core)) core.plan.nodes writing.check feeds duties news assigned ran.same fed-each
+
+        fed-of : (stream : ℕ) (end : FeedEnd) (at : FeederDid feeds duties news stream end) → HasActed (hub_of job) stream (crew.each stream (Fed at.old at.new end) (in-front acts (Wrote ended.end ∷ []) (Fed at.old at.new end) stream at.did)).0 (Fed at.old at.new end)
+        fed-of stream end at = (crew.each stream (Fed at.old at.new end) (in-front acts (Wrote ended.end ∷ []) (Fed at.old at.new end) stream at.did)).2
+
+        failed : (stream : ℕ) → (causes_in news).read ≡ Some stream → FileFailed feeds (feeds_in news) stream
+        failed stream e = elim (reads-by no_causes news stream e) [
+          | inl none ↦ absurd (cc)
+          | inr there ↦ let at = did-of stream ReadFault there in record { old = at.old; new = at.new; was = at.was; is = at.is; rose = (fed-of stream ReadFault at).2.given.0 }
+        ]
+
+        too-large : (stream : ℕ) → (causes_in news).file ≡ Some stream → IsTooLarge feeds stream
+        too-large stream e = elim (files-by no_causes news stream e) [
+          | inl none ↦ absurd (cc)
+          | inr there ↦
+              let at = did-of stream ByteLimit there in
+              let fed = fed-of stream ByteLimit at in
+              record { feed = at.old; is = at.was; bytes = λ t. subst (λ (bytes : List ℕ). 2 ^ 40 ≤ length bytes) (fed.0.bytes t) (fed.2.given t).0 }
+        ]
+
+        beyond : (node : ℕ) → (causes_in news).node ≡ Some node → AllTold feeds → ComesBeyond job (files_of feeds) node
+        beyond node e told = elim (nodes-by no_causes news node e) [
+          | inl none ↦ absurd (cc)
+          | inr at ↦
+              let there = act-there (hub_with (made_with core)) duties news ran.same at.place at.duty at.there in
+              limits-have-cause job fresh.sound fresh.certified feeds all-acts ran.history (run told) at.place node (act_of there.old at.duty)
+              (in-front acts (Wrote ended.end ∷ []) (act_of there.old at.duty) at.place there.did) (told-is there.old at.duty ∙ at.told)
+        ]
+
+        pub stop-cause : (r : Result Settled RunStop) → Concludes writing.check ended after last r → (ended.end ≡ Over → IfErr r (λ stop. OutputCause stop after last))
+            → IfErr r (λ stop. StopCause stop job feeds (feeds_in news) before last)
+        stop-cause (Ok settled) c output = tt
+        stop-cause (Err stop) c output =
+            short-cause job feeds (feeds_in news) before (run_state ended.core ended.results after) (run_state c.core c.results last) (first_of (causes_in news)) ended.end stop
+            (first-cause job feeds (feeds_in news) (causes_in news) failed beyond too-large) ran.output.later (λ is. (wrote-at WriteFault is).0) output
+            (λ none over turn s node is told. settling-cause job fresh.sound fresh.certified feeds all-acts ended.end before (run_state ended.core ended.results after) (came told) (all-whole told none over) turn c.core last s node is) c.closes

@@ -1,5 +1,5 @@
 -- How settling a core ends.
-use Rattle.std.proofs.Common.{ℕ, ◌≡◌, List, [], ◌++◌, Option, Some, None, Result, Ok, Err, IsTrue, IfErr, sym, ◌∙◌, subst, inl, inr, append-nil}
+use Rattle.std.proofs.Common.{ℕ, ◌≡◌, List, [], ◌++◌, Option, Some, None, Result, Ok, Err, IsTrue, IfErr, ◌∙◌, subst, inl, inr, append-nil}
 use Rattle.pj_io.specs.States.{SinkState}
 use Rattle.pj_events.specs.declared.events.Entry.{Entry}
 use Rattle.pj_events.specs.declared.events.Out.{Out}
@@ -12,10 +12,8 @@ use Rattle.pj_report.specs.declared.stops.WriteStop.TheVariants.{Failed, NoMemor
 use Rattle.pj_report.specs.declared.writer.Form.{Form}
 use Rattle.pj_report.specs.Forms.{shown}
 use Rattle.pj_report.specs.Written.{FrontOf, WholeLines, WritesBy, flat, write_cut}
-use Rattle.pj_run.specs.declared.stops.TurnStop.{TurnStop}
-use Rattle.pj_run.specs.declared.stops.TurnStop.TheVariants.{Limit as TurnLimit, WriteFailed as TurnFailed, NoMemory as TurnMemory, Cut as TurnCut}
 use Rattle.pj_run.specs.Stops.{end_of}
-use Rattle.pj_parallel.specs.Settling.{LeavesSome, Settled, SettleStops, StopsSettling}
+use Rattle.pj_parallel.specs.Settling.{Settled, SettleStops, StopsSettling}
 use Rattle.pj_parallel.proofs.Work.{outs-until}
 
 -- a core that was on stopped

@@ -5,7 +5,7 @@ use Rattle.pj_events.specs.declared.events.Event.TheVariants.{Take as Taken, Giv
 use Rattle.pj_events.specs.declared.events.Out.{Out}
 use Rattle.pj_events.specs.declared.events.Stop.{Stop}
 use Rattle.pj_events.specs.Plan.{Node}
-use Rattle.pj_events.specs.History.{Reached, begun, nodes_from, reached_from, reached_of}
+use Rattle.pj_events.specs.History.{Reached, begun, nodes_from, reached_of}
 use Rattle.pj_events.specs.OneThread.{Place, pending_at, places_from, plain, probes, probes_at, probes_from, sweeps_at}
 use Rattle.pj_events.specs.Outcomes.{elements_of, outputs_of}
 use Rattle.pj_pattern.specs.declared.element.Element.{Element}

@@ -1,5 +1,5 @@
 -- What is written of what a crew leaves.
-use Rattle.std.specs.Prelude.{◌≡◌, ℕ, if◌then◌else◌, List, Option, Some, None, Result, Ok, Err, IsTrue}
+use Rattle.std.specs.Prelude.{◌≡◌, ℕ, if◌then◌else◌, Option, Some, None, Result, Ok, Err, IsTrue}
 use Rattle.pj_io.specs.States.{SinkState}
 use Rattle.pj_events.specs.declared.events.Stop.TheVariants.{Limit as CoreLimit, NoMemory as CoreMemory}
 use Rattle.pj_core.specs.Cores.{CoreState}

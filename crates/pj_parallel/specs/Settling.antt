@@ -4,7 +4,7 @@ use Rattle.pj_io.specs.States.{SinkState}
 use Rattle.pj_events.specs.declared.events.Entry.{Entry}
 use Rattle.pj_events.specs.declared.events.Out.{Out}
 use Rattle.pj_events.specs.declared.events.Stop.{Stop}
-use Rattle.pj_events.specs.declared.events.Stop.TheVariants.{Limit as CoreLimit, NoMemory as CoreMemory}
+use Rattle.pj_events.specs.declared.events.Stop.TheVariants.{Limit as CoreLimit}
 use Rattle.pj_events.specs.Outcomes.{elements_out, outputs_of}
 use Rattle.pj_core.specs.Cores.{CoreState, StandsFor, nodes_after}
 use Rattle.pj_core.specs.Turns.{Finishes, MakesSome, working}

@@ -1,6 +1,7 @@
 // What a crew leaves is written, once all of it has ended.
-ghost use Rattle.std.specs.Prelude.{◌≡◌, ◌≤◌, None, Some, IsTrue, Err};
+ghost use Rattle.std.specs.Prelude.{◌≡◌, ◌≤◌, None, Some, IsTrue, IfErr, Err};
 ghost use Rattle.pj_io.specs.Causes.{Rose};
+ghost use Rattle.pj_parallel.specs.Causes.{OutputCause};
 ghost use Rattle.pj_parallel.specs.Closing.{Closes, IsOfCrew, WritesRest, cut_of, cut_where, run_state};
 ghost use Rattle.pj_workers.specs.declared.writing.WriteEnd.TheVariants.{Over};
 
@@ -33,6 +34,7 @@ pub(crate) fn close_run<K: Sink>(
     ensures closes { Closes first end (run_state core.old results.old (K.state out.old)) (run_state core.new results.new (K.state out.new)) result }
     ensures form { results.new.form ≡ results.old.form }
     ensures later { (K.state out.old).faults ≤ (K.state out.new).faults }
+    ensures fault { end ≡ Over → IfErr result (λ stop. OutputCause stop (K.state out.old) (K.state out.new)) }
 {
     match end {
         WriteEnd::NoMemory => Err(RunStop::NoMemory),
@@ -96,6 +98,7 @@ fn write_rest<K: Sink>(
     ensures rest { WritesRest stop results.old.form core.old (K.state out.old) (K.state out.new) result }
     ensures form { results.new.form ≡ results.old.form }
     ensures later { (K.state out.old).faults ≤ (K.state out.new).faults }
+    ensures fault { OutputCause result (K.state out.old) (K.state out.new) }
 {
     let outs = core.drain();
     match results.take(alloc, core.plan(), outs.as_slice(), text, out) {

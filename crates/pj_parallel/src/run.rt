@@ -1,10 +1,13 @@
 // The run of a plan with workers.
-ghost use Rattle.std.specs.Prelude.{◌≡◌, ◌≤◌, [], None, Err, IsTrue, IfErr, IfOk, length, vec_capacity};
+ghost use Rattle.std.specs.Prelude.{◌≡◌, ◌≤◌, [], None, Err, IsTrue, IfErr, IfOk, OnOk, length, vec_capacity};
 ghost use Rattle.pj_plan.specs.Nodes.{streams_in};
-ghost use Rattle.pj_feed.specs.Feeds.{AllTold, AreFeeds, AreNew, AreSameFeeds};
+ghost use Rattle.pj_feed.specs.Feeds.{AllTold, AreAllTaken, AreFeeds, AreNew, AreSameFeeds};
+ghost use Rattle.pj_run.specs.Cuts.{run_cut};
 ghost use Rattle.pj_run.specs.Runs.{IsNewCore, job_in};
+ghost use Rattle.pj_run.specs.Whole.{HasTaken, WritesWhole};
 ghost use Rattle.pj_roster.specs.Assigned.{AreAssigned};
 ghost use Rattle.pj_roster.specs.Dismissed.{causes_in, feeds_in, rows_in};
+ghost use Rattle.pj_parallel.specs.Causes.{OutputCause, StopCause};
 ghost use Rattle.pj_parallel.specs.Parallel.{IsStopped};
 ghost use Rattle.pj_parallel.specs.Closing.{IsOfCrew, first_of};
 ghost use Rattle.pj_parallel.specs.Concluding.{Concludes, Gathers};
@@ -46,6 +49,11 @@ pub struct Settled {
 /// it wrote the lines of that. Where it stopped there is a legal history of a front of each stream, of whose lines it wrote what the stop
 /// leaves: the first that is there of want of memory, a failed read of the lowest stream, the limit of a node, a file that is too large,
 /// and a failed write.
+///
+/// Where it was made to its end the core runs the same plan and has not stopped, all bytes of each file were taken, and the results are
+/// those of some elements in the form that `writing` says. What was written are whole lines, unless a write failed. A stop has its cause:
+/// the faults of the stream's file rose, that file has 2^40 bytes or more, more elements come to the node in all than may, or the faults
+/// of `out` rose; memory may be wanting at any time.
 pub fn run_parallel<S: Source + Send, K: Sink + Send, G: Gate, P: Pause, R: Threads + Wait + Sync>(
     rt: &R,
     alloc: Global,
@@ -69,16 +77,22 @@ pub fn run_parallel<S: Source + Send, K: Sink + Send, G: Gate, P: Pause, R: Thre
     ensures done { AllTold feeds.items → IfOk result.ended (Gathers (job_in writing core) feeds.items result.feeds.items (K.state out.old) (K.state out.new)) }
     ensures stops { AllTold feeds.items → IfErr result.ended (λ stop. IsStopped (job_in writing core) feeds.items result.feeds.items stop (K.state out.old) (K.state out.new)) }
     ensures later { (K.state out.old).faults ≤ (K.state out.new).faults }
+    ensures plan { IfOk result.ended (λ settled. settled.core.plan ≡ core.plan) }
+    ensures on { IfOk result.ended (λ settled. settled.core.kept.stop ≡ None) }
+    ensures has_taken { IfOk result.ended (λ settled. HasTaken writing.form settled.gathered.results) }
+    ensures taken { OnOk result.ended (AreAllTaken result.feeds.items) }
+    ensures whole { WritesWhole run_cut (K.state out.old) (K.state out.new) result.ended }
+    ensures cause { IfErr result.ended (λ stop. StopCause stop (job_in writing core) feeds.items result.feeds.items (K.state out.old) (K.state out.new)) }
 {
     match enroll(alloc, plan, feeds, workers, writing.check) {
         Ok(Roster { duties, room, rows }) => {
             let results = ResultWriter::new(alloc, writing.form);
             match run_crew(rt, alloc, core, plan, duties, results, out, gate, pause) {
                 Ok(ended) => conclude(alloc, writing.check, ended, room, rows, text, out),
-                Err(duties) => disband(duties, room, rows),
+                Err(duties) => stopped(disband(duties, room, rows), RunStop::NoMemory),
             }
         }
-        Err(feeds) => out_of_memory(feeds),
+        Err(feeds) => stopped(feeds, RunStop::NoMemory),
     }
 }
 
@@ -124,34 +138,33 @@ fn enroll<S: Source>(
     }
 }
 
-// A crew that did not begin: its feeds come back.
+// The feeds of a crew that did not begin.
 fn disband<S: Source>(
     duties: Vec<Duty<S>>,
     room: Vec<Feed<S>>,
     rows: Vec<Items<Row>>,
-) -> RanParallel<S>
+) -> Vec<Feed<S>>
     requires none { (room.items ≡ []) × (rows.items ≡ []) }
     requires feeds { length (feeds_in duties.items) ≤ vec_capacity room }
     requires rows { length (rows_in duties.items) ≤ vec_capacity rows }
-    ensures feeds { result.feeds.items ≡ feeds_in duties.items }
-    ensures ended { result.ended ≡ Err RunStop.NoMemory }
+    ensures { result.items ≡ feeds_in duties.items }
 {
     let Dismissed {
         feeds,
         rows: _,
         causes: _,
     } = dismiss(duties, room, rows);
-    out_of_memory(feeds)
+    feeds
 }
 
-// Memory could not be had before anything was done.
-fn out_of_memory<S: Source>(feeds: Vec<Feed<S>>) -> RanParallel<S>
+// A run that stopped so.
+fn stopped<S: Source>(feeds: Vec<Feed<S>>, stop: RunStop) -> RanParallel<S>
     ensures feeds { result.feeds.items ≡ feeds.items }
-    ensures ended { result.ended ≡ Err RunStop.NoMemory }
+    ensures ended { result.ended ≡ Err stop }
 {
     RanParallel {
         feeds,
-        ended: Err(RunStop::NoMemory),
+        ended: Err(stop),
     }
 }
 
@@ -173,6 +186,7 @@ fn conclude<S: Source, K: Sink>(
     ensures told { IsTrue (K.state out.new).told → IsTrue (K.state out.old).told }
     ensures concludes { Concludes check ended (K.state out.old) (K.state out.new) result.ended }
     ensures later { (K.state out.old).faults ≤ (K.state out.new).faults }
+    ensures fault { ended.end ≡ Over → IfErr result.ended (λ stop. OutputCause stop (K.state out.old) (K.state out.new)) }
 {
     let Ended {
         core,
@@ -200,10 +214,7 @@ fn conclude<S: Source, K: Sink>(
                 ended: Ok(Settled { core, gathered }),
             }
         }
-        Err(stop) => RanParallel {
-            feeds,
-            ended: Err(stop),
-        },
+        Err(stop) => stopped(feeds, stop),
     }
 }
 

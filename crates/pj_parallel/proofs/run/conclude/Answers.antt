@@ -1,5 +1,4 @@
-use Rattle.std.proofs.Common.{◌≡◌, Option, None, Ok, refl, sym, ap, subst, ◌∙◌}
-use Rattle.pj_roster.specs.declared.causes.Causes.{Causes}
+use Rattle.std.proofs.Common.{Option, Ok, refl, sym, ap, subst, ◌∙◌}
 use Rattle.pj_run.specs.declared.stops.RunStop.{RunStop}
 use Rattle.pj_parallel.specs.Closing.{Closes, first_of, run_state}
 use Rattle.pj_parallel.proofs.run.conclude.Goals as goal

@@ -1,12 +1,16 @@
-use Rattle.std.proofs.Common.{◌≡◌, ◌≤◌, ◌∙◌, arith, length, vec_capacity, IfErr, IfOk, List, refl, sym, ap, subst}
-use Rattle.pj_plan.specs.declared.node.PlanNode.{PlanNode}
-use Rattle.pj_feed.specs.Feeds.{AreSameFeeds, FeedState}
+use Rattle.std.proofs.Common.{◌≤◌, ◌∙◌, arith, length, vec_capacity, IfErr, IfOk, OnOk, List, Result, refl, sym, ap, subst}
+use Rattle.pj_feed.specs.Feeds.{AreAllTaken, AreSameFeeds, FeedState}
 use Rattle.pj_feed.proofs.AllFeeds.{all_same}
+use Rattle.pj_run.specs.declared.stops.RunStop.{RunStop}
+use Rattle.pj_run.specs.Cuts.{run_cut}
 use Rattle.pj_run.specs.Runs.{job_in}
+use Rattle.pj_run.specs.Whole.{WritesWhole}
 use Rattle.pj_roster.specs.Dismissed.{feeds_in, rows_in}
+use Rattle.pj_parallel.specs.declared.run.Settled.{Settled}
+use Rattle.pj_parallel.specs.Causes.{StopCause}
 use Rattle.pj_parallel.specs.Concluding.{Gathers}
 use Rattle.pj_parallel.specs.Parallel.{IsStopped}
-use Rattle.pj_parallel.proofs.Running.{ended-short, ended-well, feeds-long, few-feeds, handed-feeds, may-begin, nothing-done, rows-long, same-all, stays-on}
+use Rattle.pj_parallel.proofs.Running.{ended-short, ended-well, feeds-long, few-feeds, handed-feeds, may-begin, nothing-done, nothing-written, rows-long, same-all, same-plan, stays-on, still-on, stop-cause, taken-all, taken-in-form, whole-lines}
 use Rattle.pj_parallel.proofs.run.run_parallel.Goals as goal
 
 pub enroll-requires-clause-few : goal.enroll-requires-clause-few
@@ -58,17 +62,61 @@ returns-in-Ok-run_crew-clause-stops g c = λ told.
 pub returns-in-Err-run_crew-clause-same : goal.returns-in-Err-run_crew-clause-same
 returns-in-Err-run_crew-clause-same g c =
     let handed = handed-feeds c.args.plan.now.nodes c.args.writing.check c.args.feeds.items c.in-Ok.field-0.duties.items c.in-Ok.ensures.assigned in
-    subst (AreSameFeeds c.args.feeds.items) (sym (c.disband.ensures.feeds ∙ (ap (λ ds. feeds_in ds) c.in-Err-run_crew.ensures.refused.0 ∙ handed.0))) (all_same c.args.feeds.items)
+    subst (AreSameFeeds c.args.feeds.items) (sym (c.stopped.ensures.feeds ∙ c.disband.ensures ∙ (ap (λ ds. feeds_in ds) c.in-Err-run_crew.ensures.refused.0 ∙ handed.0))) (all_same c.args.feeds.items)
 
 pub returns-in-Err-run_crew-clause-stops : goal.returns-in-Err-run_crew-clause-stops
 returns-in-Err-run_crew-clause-stops g c = λ told.
-    subst (λ r. IfErr r (λ stop. IsStopped (job_in c.args.writing c.args.core) c.args.feeds.items c.disband.result.feeds.items stop (g.K.Sink.state c.args.out.now) (g.K.Sink.state c.run_crew.new.out))) (sym c.disband.ensures.ended)
-    (nothing-done (job_in c.args.writing c.args.core) c.args.feeds.items c.disband.result.feeds.items (g.K.Sink.state c.args.out.now) (g.K.Sink.state c.run_crew.new.out) c.in-Err-run_crew.ensures.refused.1)
+    subst (λ r. IfErr r (λ stop. IsStopped (job_in c.args.writing c.args.core) c.args.feeds.items c.stopped.result.feeds.items stop (g.K.Sink.state c.args.out.now) (g.K.Sink.state c.run_crew.new.out))) (sym c.stopped.ensures.ended)
+    (nothing-done (job_in c.args.writing c.args.core) c.args.feeds.items c.stopped.result.feeds.items (g.K.Sink.state c.args.out.now) (g.K.Sink.state c.run_crew.new.out) c.in-Err-run_crew.ensures.refused.1)
 
 pub returns-in-Err-clause-same : goal.returns-in-Err-clause-same
-returns-in-Err-clause-same g c = subst (AreSameFeeds c.args.feeds.items) (sym (c.out_of_memory.ensures.feeds ∙ c.in-Err.ensures.refused)) (all_same c.args.feeds.items)
+returns-in-Err-clause-same g c = subst (AreSameFeeds c.args.feeds.items) (sym (c.stopped-in-Err.ensures.feeds ∙ c.in-Err.ensures.refused)) (all_same c.args.feeds.items)
 
 pub returns-in-Err-clause-stops : goal.returns-in-Err-clause-stops
 returns-in-Err-clause-stops g c = λ told.
-    subst (λ r. IfErr r (λ stop. IsStopped (job_in c.args.writing c.args.core) c.args.feeds.items c.out_of_memory.result.feeds.items stop (g.K.Sink.state c.args.out.now) (g.K.Sink.state c.args.out.now))) (sym c.out_of_memory.ensures.ended)
-    (nothing-done (job_in c.args.writing c.args.core) c.args.feeds.items c.out_of_memory.result.feeds.items (g.K.Sink.state c.args.out.now) (g.K.Sink.state c.args.out.now) refl)
+    subst (λ r. IfErr r (λ stop. IsStopped (job_in c.args.writing c.args.core) c.args.feeds.items c.stopped-in-Err.result.feeds.items stop (g.K.Sink.state c.args.out.now) (g.K.Sink.state c.args.out.now))) (sym c.stopped-in-Err.ensures.ended)
+    (nothing-done (job_in c.args.writing c.args.core) c.args.feeds.items c.stopped-in-Err.result.feeds.items (g.K.Sink.state c.args.out.now) (g.K.Sink.state c.args.out.now) refl)
+
+-- ---- whatever files and output tell
+
+pub returns-in-Ok-run_crew-clause-plan : goal.returns-in-Ok-run_crew-clause-plan
+returns-in-Ok-run_crew-clause-plan g c = same-plan c.args.writing c.args.core c.requires.fresh c.args.plan.now.nodes c.requires.plan c.args.feeds.items c.requires.feeds c.in-Ok.field-0.duties.items c.in-Ok.ensures.assigned c.new-results.result c.new-results.ensures _ _ c.in-Ok-run_crew.ended c.in-Ok-run_crew.ensures.run (g.K.Sink.state c.conclude.new.out) c.conclude.result.ended c.conclude.ensures.concludes
+
+pub returns-in-Ok-run_crew-clause-on : goal.returns-in-Ok-run_crew-clause-on
+returns-in-Ok-run_crew-clause-on g c = still-on c.args.writing c.args.core c.requires.fresh c.args.plan.now.nodes c.requires.plan c.args.feeds.items c.requires.feeds c.in-Ok.field-0.duties.items c.in-Ok.ensures.assigned c.new-results.result c.new-results.ensures _ _ c.in-Ok-run_crew.ended c.in-Ok-run_crew.ensures.run (g.K.Sink.state c.conclude.new.out) c.conclude.result.ended c.conclude.ensures.concludes
+
+pub returns-in-Ok-run_crew-clause-has_taken : goal.returns-in-Ok-run_crew-clause-has_taken
+returns-in-Ok-run_crew-clause-has_taken g c = taken-in-form c.args.writing c.args.core c.requires.fresh c.args.plan.now.nodes c.requires.plan c.args.feeds.items c.requires.feeds c.in-Ok.field-0.duties.items c.in-Ok.ensures.assigned c.new-results.result c.new-results.ensures _ _ c.in-Ok-run_crew.ended c.in-Ok-run_crew.ensures.run (g.K.Sink.state c.conclude.new.out) c.conclude.result.ended c.conclude.ensures.concludes
+
+pub returns-in-Ok-run_crew-clause-taken : goal.returns-in-Ok-run_crew-clause-taken
+returns-in-Ok-run_crew-clause-taken g c =
+    subst (λ (news : List FeedState). OnOk c.conclude.result.ended (AreAllTaken news)) (sym c.conclude.ensures.feeds)
+    (taken-all c.args.writing c.args.core c.requires.fresh c.args.plan.now.nodes c.requires.plan c.args.feeds.items c.requires.feeds c.in-Ok.field-0.duties.items c.in-Ok.ensures.assigned c.new-results.result c.new-results.ensures _ _ c.in-Ok-run_crew.ended c.in-Ok-run_crew.ensures.run (g.K.Sink.state c.conclude.new.out) c.conclude.result.ended c.conclude.ensures.concludes)
+
+pub returns-in-Ok-run_crew-clause-whole : goal.returns-in-Ok-run_crew-clause-whole
+returns-in-Ok-run_crew-clause-whole g c = whole-lines c.args.writing c.args.core c.requires.fresh c.args.plan.now.nodes c.requires.plan c.args.feeds.items c.requires.feeds c.in-Ok.field-0.duties.items c.in-Ok.ensures.assigned c.new-results.result c.new-results.ensures _ _ c.in-Ok-run_crew.ended c.in-Ok-run_crew.ensures.run (g.K.Sink.state c.conclude.new.out) c.conclude.result.ended c.conclude.ensures.concludes c.conclude.ensures.told
+
+pub returns-in-Ok-run_crew-clause-cause : goal.returns-in-Ok-run_crew-clause-cause
+returns-in-Ok-run_crew-clause-cause g c =
+    subst (λ (news : List FeedState). IfErr c.conclude.result.ended (λ stop. StopCause stop (job_in c.args.writing c.args.core) c.args.feeds.items news (g.K.Sink.state c.args.out.now) (g.K.Sink.state c.conclude.new.out))) (sym c.conclude.ensures.feeds)
+    (stop-cause c.args.writing c.args.core c.requires.fresh c.args.plan.now.nodes c.requires.plan c.args.feeds.items c.requires.feeds c.in-Ok.field-0.duties.items c.in-Ok.ensures.assigned c.new-results.result c.new-results.ensures _ _ c.in-Ok-run_crew.ended c.in-Ok-run_crew.ensures.run (g.K.Sink.state c.conclude.new.out) c.conclude.result.ended c.conclude.ensures.concludes c.conclude.ensures.fault)
+
+pub returns-in-Err-run_crew-clause-whole : goal.returns-in-Err-run_crew-clause-whole
+returns-in-Err-run_crew-clause-whole g c =
+    subst (λ (r : Result Settled RunStop). WritesWhole run_cut (g.K.Sink.state c.args.out.now) (g.K.Sink.state c.run_crew.new.out) r) (sym c.stopped.ensures.ended)
+    (nothing-written (g.K.Sink.state c.args.out.now) (g.K.Sink.state c.run_crew.new.out) c.in-Err-run_crew.ensures.refused.1)
+
+pub returns-in-Err-run_crew-clause-cause : goal.returns-in-Err-run_crew-clause-cause
+returns-in-Err-run_crew-clause-cause g c =
+    subst (λ (r : Result Settled RunStop). IfErr r (λ stop. StopCause stop (job_in c.args.writing c.args.core) c.args.feeds.items c.stopped.result.feeds.items (g.K.Sink.state c.args.out.now) (g.K.Sink.state c.run_crew.new.out)))
+    (sym c.stopped.ensures.ended) tt
+
+pub returns-in-Err-clause-whole : goal.returns-in-Err-clause-whole
+returns-in-Err-clause-whole g c =
+    subst (λ (r : Result Settled RunStop). WritesWhole run_cut (g.K.Sink.state c.args.out.now) (g.K.Sink.state c.args.out.now) r) (sym c.stopped-in-Err.ensures.ended)
+    (nothing-written (g.K.Sink.state c.args.out.now) (g.K.Sink.state c.args.out.now) refl)
+
+pub returns-in-Err-clause-cause : goal.returns-in-Err-clause-cause
+returns-in-Err-clause-cause g c =
+    subst (λ (r : Result Settled RunStop). IfErr r (λ stop. StopCause stop (job_in c.args.writing c.args.core) c.args.feeds.items c.stopped-in-Err.result.feeds.items (g.K.Sink.state c.args.out.now) (g.K.Sink.state c.args.out.now)))
+    (sym c.stopped-in-Err.ensures.ended) tt
