@@ -5,7 +5,7 @@ use Rattle.pj_plan.specs.declared.node.PlanNode.{PlanNode}
 use Rattle.pj_plan.specs.Nodes.{streams_of}
 use Rattle.pj_safety.specs.Safety.{IsSafePlan}
 use Rattle.std.proofs.Common.{◌≡◌, ◌≤◌, ◌<◌, ◌+◌, ℕ, suc, Bool, inl, inr, List, [], ◌∷◌, ◌++◌, map, length, take, Option, Some, None, Result, Err, IsTrue, refl, ap, ap₂, sym, ◌∙◌, subst, arith}
-use Rattle.std.specs.Prelude.{slice_index_or, ◌^◌}
+use Rattle.std.specs.Prelude.{slice_index_or, ◌^◌, ⊤}
 use Rattle.std.proofs.lemmas.List.{length-append, take_all}
 use Rattle.pj_io.specs.Causes.{Rose}
 use Rattle.pj_io.specs.Folders.{NoneFalls}
@@ -36,8 +36,7 @@ use Rattle.pj_report.specs.Report.{status_line}
 use Rattle.pj_run.specs.RunEnds.{FilesEnd, FilesCause, FilesOpened, IsFaultOf, IsLargeFile}
 use Rattle.pj_run.specs.Runs.{due_lines, job_by, refused_line, GoesBeyond, IsScriptOf}
 use Rattle.pj_run.specs.Stops.{core_status, files_status, run_line, run_status, stop_line, IsOfFew, IsStopTold}
-use Rattle.pj_alone.specs.Endings.{at_end, at_opening, in_run, ending_of, ComesAt, EarlyLeaves, FaultLeaves, IsScriptRead, KeepsLast, RunLeaves, StopLeaves, stop_name, limit_name, CutAtFault}
-use Rattle.pj_alone.specs.Promises.{Ends}
+use Rattle.pj_alone.specs.Endings.{at_end, at_opening, in_run, ending_of, ComesAt, EarlyLeaves, Ending, EndsBy, FaultLeaves, IsScriptRead, KeepsLast, RunLeaves, StopLeaves, stop_name, limit_name, CutAtFault}
 use Rattle.pj_alone.specs.Top.{BeyondLimit, HasFault, IsBuilt, IsLineRefused, IsUnopened, IsTooLarge}
 use Rattle.pj_run.specs.Cuts.{files_cut, run_cut}
 use Rattle.pj_report.specs.Written.{anywhere, Delivered, HandedOn, Leaves, flat, FrontOf, WholeLines}
@@ -117,27 +116,64 @@ built call plan run long safe read = record {
   plan = λ t. let r = read t in (r.1, (plan, r.0, sym long, safe));
 }
 
+-- ---- why a run stopped
+
+-- why it stopped, where this is so of a node at which a limit was met; of a step of a script nothing is said
+abbrev pub CauseBy : (ℕ → Type 0) → FilesStop → List (List ℕ) → FolderState → FolderState → SinkState → SinkState → Type 0
+CauseBy Beyond (Opening (Fault stream)) names before after old new = IsFaultOf stream names before after
+CauseBy Beyond (Opening OpeningMemory) names before after old new = ⊤
+CauseBy Beyond (Run (RunFault stream)) names before after old new = IsFaultOf stream names before after
+CauseBy Beyond (Run (TooLarge stream)) names before after old new = IsLargeFile stream names before
+CauseBy Beyond (Run (RunLimit node)) names before after old new = Beyond node
+CauseBy Beyond (Run (RunRefused line)) names before after old new = ⊤
+CauseBy Beyond (Run WriteFailed) names before after old new = Rose old.faults new.faults
+CauseBy Beyond (Run RunMemory) names before after old new = ⊤
+CauseBy Beyond (Run (RunCut (CoreLimit node))) names before after old new = Rose old.faults new.faults × Beyond node
+CauseBy Beyond (Run (RunCut CoreMemory)) names before after old new = Rose old.faults new.faults × ⊤
+CauseBy Beyond (Run (CutRead stream)) names before after old new = Rose old.faults new.faults × IsFaultOf stream names before after
+CauseBy Beyond (Run (CutLarge stream)) names before after old new = Rose old.faults new.faults × IsLargeFile stream names before
+CauseBy Beyond (Run (CutRefused line)) names before after old new = Rose old.faults new.faults
+
+-- a run on one thread, or by a script, goes beyond a limit as it comes to it
+abbrev pub goes_over : Job → List (List ℕ) → FolderState → ℕ → Type 0
+goes_over job names folder node = AreTold names folder → GoesBeyond job (files_named names folder) node
+
+pub cause_by : (stop : FilesStop) (job : Job) (names : List (List ℕ)) (before after : FolderState) (old new : SinkState) → FilesCause stop job names before after old new → CauseBy (goes_over job names before) stop names before after old new
+cause_by (Opening (Fault stream)) job names before after old new cause = cause
+cause_by (Opening OpeningMemory) job names before after old new cause = tt
+cause_by (Run (RunFault stream)) job names before after old new cause = cause
+cause_by (Run (TooLarge stream)) job names before after old new cause = cause
+cause_by (Run (RunLimit node)) job names before after old new cause = cause
+cause_by (Run (RunRefused line)) job names before after old new cause = tt
+cause_by (Run WriteFailed) job names before after old new cause = cause
+cause_by (Run RunMemory) job names before after old new cause = tt
+cause_by (Run (RunCut (CoreLimit node))) job names before after old new cause = cause
+cause_by (Run (RunCut CoreMemory)) job names before after old new cause = (cause.0, tt)
+cause_by (Run (CutRead stream)) job names before after old new cause = (cause.0, cause.1)
+cause_by (Run (CutLarge stream)) job names before after old new cause = (cause.0, cause.1)
+cause_by (Run (CutRefused line)) job names before after old new cause = cause.0
+
 -- ---- what a stop leaves
 
 module _ (call : Call) (lead files : List (List ℕ)) (mid new : FolderState) (named : call.names ≡ lead ++ files) (are : files ≡ file_names call) (number : first_file call ≡ suc (length lead)) (told : mid.told ≡ call.folder.told) (contents : mid.contents ≡ call.folder.contents) (others : StayOutside lead call.folder mid) where
   abbrev F : ℕ
   F = first_file call
 
-  at_operand : (stream : ℕ) → operand call.names (F + stream) ≡ slice_index_or files stream []
+  pub at_operand : (stream : ℕ) → operand call.names (F + stream) ≡ slice_index_or files stream []
   at_operand stream = ap (λ (ns : List (List ℕ)). operand ns (F + stream)) named ∙ operand_at lead files (F + stream) stream (omega (arith, number))
 
   files_are : files_named files mid ≡ stream_files call
   files_are = files_same call files mid are told contents
 
   -- a file that was not opened
-  not_opened : (job : Job) (stream : ℕ) (before bytes : List ℕ) → FilesEnd (Opening (Fault stream)) job files mid new before bytes
+  not_opened : (stream : ℕ) → (IsAlone stream files → new.last (slice_index_or files stream []) ≡ mid.last (slice_index_or files stream []))
       → IsAlone (length lead + stream) call.names → new.last (slice_index_or call.names (length lead + stream) []) ≡ call.folder.last (slice_index_or call.names (length lead + stream) [])
-  not_opened job stream before bytes ends = λ alone.
+  not_opened stream last = λ alone.
       let place = length lead + stream in
       let own = subst (IsAlone place) named alone in
       let at : slice_index_or call.names place [] ≡ slice_index_or files stream [] = ap (λ (ns : List (List ℕ)). slice_index_or ns place []) named ∙ name_at lead files place stream refl in
       ap new.last at
-      ∙ (ends.1 (alone_among lead files place stream refl own)
+      ∙ (last (alone_among lead files place stream refl own)
       ∙ (others.last (slice_index_or files stream []) (unlike_lead lead files place stream refl own) ∙ ap call.folder.last (sym at)))
 
   -- a read that failed
@@ -237,9 +273,20 @@ module _ (call : Call) (lead files : List (List ℕ)) (mid new : FolderState) (n
     earlier_rose (status_line [] NoMemory) first now after le line,
   )
 
+  -- the same of a stop of a run over files
+  pub leaves_run : (stop : FilesStop) (job : Job) (name : List ℕ) (first now after : SinkState) → (HasToldJob call → job_of call ≡ Some job) → name ≡ stop_name job.nodes (files_status F stop) → FilesCause stop job files mid new first now
+      → (IsTold call → IsTrue after.told → Leaves (files_cut stop) (due_lines job (files_named files mid)) first.written now.written)
+      → (IsTold call → IsTrue after.told → FilesEnd stop job files mid new first.written now.written) → first.faults ≤ now.faults → now.faults ≤ after.faults → Delivered (stop_line F stop name) now after
+      → (r : RunStop) → stop ≡ Run r → RunLeaves (ending_of call (run_status F r) new first after)
+  leaves_run (Opening opening) job name first now after read is_name cause left ends le more line r is = absurd (cc)
+  leaves_run (Run stop) job name first now after read is_name cause left ends le more line r is = λ all t.
+      let same : stop ≡ r = cc is in
+      subst (λ (s : RunStop). (job : Job) × (job_of call ≡ Some job) × StopLeaves (run_status F s) job call new first after) same
+      (job, read (all.plan, all.script), stopped stop job name first now after t (files_told call files mid are told contents all) is_name cause (left all t) (ends all t) le more line)
+
   -- ---- how far the call came
 
-  module _ (one : OpensFirst (length lead) lead call.folder mid) (is_built : IsBuilt call) where
+  module _ (InRun : Ending → Type 0) (one : OpensFirst (length lead) lead call.folder mid) (is_built : IsBuilt call) where
     then_opened : (count : ℕ) → OpensFirst count files mid new → OpensFirst (length lead + count) call.names call.folder new
     then_opened count more = subst (λ (ns : List (List ℕ)). OpensFirst (length lead + count) ns call.folder new) (sym named) (opens_on lead files count call.folder mid new one more)
 
@@ -257,7 +304,7 @@ module _ (call : Call) (lead files : List (List ℕ)) (mid new : FolderState) (n
         let whole : take (length files) files ≡ files = take_all (length files) files (omega arith) in
         subst (λ (n : ℕ). StayOutside (take n call.names) call.folder new) all_counted (then_tried (length files) (subst (λ (ns : List (List ℕ)). StayOutside ns mid new) (sym whole) stay))
 
-    pub ended_done : IsScriptRead call → (first after : SinkState) → OpensFirst (length files) files mid new → StayOutside files mid new → Ends (ending_of call Done new first after)
+    pub ended_done : IsScriptRead call → (first after : SinkState) → OpensFirst (length files) files mid new → StayOutside files mid new → EndsBy InRun (ending_of call Done new first after)
     ended_done seen first after opened stay = (
       at_end,
       record {
@@ -272,7 +319,7 @@ module _ (call : Call) (lead files : List (List ℕ)) (mid new : FolderState) (n
 
     -- so many operands' files were opened, and the next one's was not
     opening_ended : IsScriptRead call → (count : ℕ) (status : Status) (first after : SinkState) → ComesAt status (at_opening (length lead + count)) → OpensFirst count files mid new → StayOutside (take (count + 1) files) mid new
-        → EarlyLeaves status call first after → KeepsLast (length lead + count) (ending_of call status new first after) → Ends (ending_of call status new first after)
+        → EarlyLeaves status call first after → KeepsLast (length lead + count) (ending_of call status new first after) → EndsBy InRun (ending_of call status new first after)
     opening_ended seen count status first after comes opened stay left keeps = (
       at_opening (length lead + count),
       record {
@@ -287,7 +334,7 @@ module _ (call : Call) (lead files : List (List ℕ)) (mid new : FolderState) (n
       },
     )
 
-    run_ended : IsScriptRead call → (status : Status) (first after : SinkState) → ComesAt status in_run → ((n : ℕ) → status ≡ ReadFault n → F ≤ n) → OpensFirst (length files) files mid new → StayOutside files mid new → RunLeaves (ending_of call status new first after) → Ends (ending_of call status new first after)
+    run_ended : IsScriptRead call → (status : Status) (first after : SinkState) → ComesAt status in_run → ((n : ℕ) → status ≡ ReadFault n → F ≤ n) → OpensFirst (length files) files mid new → StayOutside files mid new → InRun (ending_of call status new first after) → EndsBy InRun (ending_of call status new first after)
     run_ended seen status first after comes reads opened stay left = (
       in_run,
       record {
@@ -327,157 +374,134 @@ module _ (call : Call) (lead files : List (List ℕ)) (mid new : FolderState) (n
     of_stream (RunCut (CoreLimit node)) n e = absurd (cc)
     of_stream (RunCut CoreMemory) n e = absurd (cc)
 
-    pub ended_stop : IsScriptRead call → 1 ≤ length lead → (stop : FilesStop) (job : Job) (name : List ℕ) (first now after : SinkState) → (HasToldJob call → job_of call ≡ Some job) → name ≡ stop_name job.nodes (files_status F stop)
-        → ((opening : OpeningStop) → stop ≡ Opening opening → now ≡ first) → FilesOpened (Err stop) files mid new → StayOutside files mid new → FilesCause stop job files mid new first now
-        → (IsTold call → IsTrue after.told → Leaves (files_cut stop) (due_lines job (files_named files mid)) first.written now.written)
-        → (IsTold call → IsTrue after.told → FilesEnd stop job files mid new first.written now.written)
-        → first.faults ≤ now.faults → now.faults ≤ after.faults → Delivered (stop_line F stop name) now after → Ends (ending_of call (files_status F stop) new first after)
-    ended_stop seen some (Opening (Fault stream)) job name before now after read is_name same opened stay cause left ends le more line =
+    pub ended_stop : IsScriptRead call → 1 ≤ length lead → (stop : FilesStop) (nodes : List PlanNode) (name : List ℕ) (first now after : SinkState) → name ≡ stop_name nodes (files_status F stop)
+        → ((opening : OpeningStop) → stop ≡ Opening opening → now ≡ first) → FilesOpened (Err stop) files mid new → StayOutside files mid new
+        → ((stream : ℕ) → stop ≡ Opening (Fault stream) → IsTold call → IsTrue after.told → IsAlone stream files → new.last (slice_index_or files stream []) ≡ mid.last (slice_index_or files stream []))
+        → ((r : RunStop) → stop ≡ Run r → InRun (ending_of call (run_status F r) new first after))
+        → Delivered (stop_line F stop name) now after → EndsBy InRun (ending_of call (files_status F stop) new first after)
+    ended_stop seen some (Opening (Fault stream)) nodes name before now after is_name same opened stay last left line =
         opening_ended seen stream (OpenFault (F + stream)) before after (length lead + stream, (let e : length lead + stream + 1 ≡ F + stream = omega (arith, number) in e), refl) opened.0 opened.1
         (subst (λ (s : SinkState). Delivered (status_line [] (OpenFault (F + stream))) s after) (same (Fault stream) refl)
         (subst (λ (x : List ℕ). Delivered (status_line x (OpenFault (F + stream))) now after) is_name line))
-        (λ told t n is. not_opened job stream before.written now.written (ends told t))
-    ended_stop seen some (Opening OpeningMemory) job name before now after read is_name same opened stay cause left ends le more line =
+        (λ told t n is. not_opened stream (last stream refl told t))
+    ended_stop seen some (Opening OpeningMemory) nodes name before now after is_name same opened stay last left line =
         opening_ended seen opened.count NoMemory before after tt opened.opened opened.others
         (subst (λ (s : SinkState). Delivered (status_line [] NoMemory) s after) (same OpeningMemory refl) (subst (λ (x : List ℕ). Delivered (status_line x NoMemory) now after) is_name line))
         (λ told t n is. absurd (cc))
-    ended_stop seen some (Run stop) job name before now after read is_name same opened stay cause left ends le more line =
-        run_ended seen (run_status F stop) before after (comes_in_run some stop) (of_stream stop) opened stay
-        (λ all t. (job, read (all.plan, all.script), stopped stop job name before now after t (files_told call files mid are told contents all) is_name cause (left all t) (ends all t) le more line))
+    ended_stop seen some (Run stop) nodes name before now after is_name same opened stay last left line =
+        run_ended seen (run_status F stop) before after (comes_in_run some stop) (of_stream stop) opened stay (left stop refl)
 
   -- ---- causes
 
-  module _ (faults : NoneFalls call.folder.faults mid.faults) where
-    fault_at : (stream : ℕ) → IsBuilt call → IsFaultOf stream files mid new → HasFault call new (F + stream)
-    fault_at stream is f = record {
-      first = omega (arith, number);
-      last = let all = ap length named in let parts = length-append lead files in let there = f.there in omega (arith, all, parts, there, number);
-      rose = subst (λ (n : List ℕ). Rose (call.folder.faults n) (new.faults n)) (sym (at_operand stream))
-          (let r = f.rose in let le = faults (slice_index_or files stream []) in omega (arith, r, le));
-      later = λ _. is;
-    }
+  module _ (Beyond : ℕ → Type 0) where
+    module _ (faults : NoneFalls call.folder.faults mid.faults) where
+      fault_at : (stream : ℕ) → IsBuilt call → IsFaultOf stream files mid new → HasFault call new (F + stream)
+      fault_at stream is f = record {
+        first = omega (arith, number);
+        last = let all = ap length named in let parts = length-append lead files in let there = f.there in omega (arith, all, parts, there, number);
+        rose = subst (λ (n : List ℕ). Rose (call.folder.faults n) (new.faults n)) (sym (at_operand stream))
+            (let r = f.rose in let le = faults (slice_index_or files stream []) in omega (arith, r, le));
+        later = λ _. is;
+      }
 
-    pub faulted : (stop : FilesStop) (job : Job) (first now : SinkState) (n : ℕ) → IsBuilt call → FilesCause stop job files mid new first now → files_status F stop ≡ ReadFault n → HasFault call new n
-    faulted (Opening (Fault stream)) job first now n is cause e = absurd (cc)
-    faulted (Opening OpeningMemory) job first now n is cause e = absurd (cc)
-    faulted (Run (RunFault stream)) job first now n is cause e = let same : F + stream ≡ n = cc e in subst (HasFault call new) same (fault_at stream is cause)
-    faulted (Run (TooLarge stream)) job first now n is cause e = absurd (cc)
-    faulted (Run (RunLimit node)) job first now n is cause e = absurd (cc)
-    faulted (Run (RunRefused line)) job first now n is cause e = absurd (cc)
-    faulted (Run (RunCut (CoreLimit node))) job first now n is cause e = absurd (cc)
-    faulted (Run (RunCut CoreMemory)) job first now n is cause e = absurd (cc)
-    faulted (Run (CutRead stream)) job first now n is cause e = let same : F + stream ≡ n = cc e in subst (HasFault call new) same (fault_at stream is cause.1)
-    faulted (Run (CutLarge stream)) job first now n is cause e = absurd (cc)
-    faulted (Run (CutRefused line)) job first now n is cause e = absurd (cc)
-    faulted (Run WriteFailed) job first now n is cause e = absurd (cc)
-    faulted (Run RunMemory) job first now n is cause e = absurd (cc)
+      pub faulted : (stop : FilesStop) (first now : SinkState) (n : ℕ) → IsBuilt call → CauseBy Beyond stop files mid new first now → files_status F stop ≡ ReadFault n → HasFault call new n
+      faulted (Opening (Fault stream)) first now n is cause e = absurd (cc)
+      faulted (Opening OpeningMemory) first now n is cause e = absurd (cc)
+      faulted (Run (RunFault stream)) first now n is cause e = let same : F + stream ≡ n = cc e in subst (HasFault call new) same (fault_at stream is cause)
+      faulted (Run (TooLarge stream)) first now n is cause e = absurd (cc)
+      faulted (Run (RunLimit node)) first now n is cause e = absurd (cc)
+      faulted (Run (RunRefused line)) first now n is cause e = absurd (cc)
+      faulted (Run (RunCut (CoreLimit node))) first now n is cause e = absurd (cc)
+      faulted (Run (RunCut CoreMemory)) first now n is cause e = absurd (cc)
+      faulted (Run (CutRead stream)) first now n is cause e = let same : F + stream ≡ n = cc e in subst (HasFault call new) same (fault_at stream is cause.1)
+      faulted (Run (CutLarge stream)) first now n is cause e = absurd (cc)
+      faulted (Run (CutRefused line)) first now n is cause e = absurd (cc)
+      faulted (Run WriteFailed) first now n is cause e = absurd (cc)
+      faulted (Run RunMemory) first now n is cause e = absurd (cc)
 
-    pub unopened : (stop : FilesStop) (job : Job) (first now : SinkState) (n : ℕ) → IsBuilt call → OpensFirst (length lead) lead call.folder mid → FilesCause stop job files mid new first now → FilesOpened (Err stop) files mid new
-        → files_status F stop ≡ OpenFault n → IsUnopened call new n
-    unopened (Opening (Fault stream)) job first now n is one cause opened e =
-        let same : F + stream ≡ n = cc e in
-        subst (IsUnopened call new) same
+      pub unopened : (stop : FilesStop) (first now : SinkState) (n : ℕ) → IsBuilt call → OpensFirst (length lead) lead call.folder mid → CauseBy Beyond stop files mid new first now → FilesOpened (Err stop) files mid new
+          → files_status F stop ≡ OpenFault n → IsUnopened call new n
+      unopened (Opening (Fault stream)) first now n is one cause opened e =
+          let same : F + stream ≡ n = cc e in
+          subst (IsUnopened call new) same
+          (record {
+            fault = fault_at stream is cause;
+            before = length lead + stream;
+            number = let e : length lead + stream + 1 ≡ F + stream = omega (arith, number) in e;
+            opened = then_opened RunLeaves one is stream opened.0;
+          })
+      unopened (Opening OpeningMemory) first now n is one cause opened e = absurd (cc)
+      unopened (Run (RunFault stream)) first now n is one cause opened e = absurd (cc)
+      unopened (Run (TooLarge stream)) first now n is one cause opened e = absurd (cc)
+      unopened (Run (RunLimit node)) first now n is one cause opened e = absurd (cc)
+      unopened (Run (RunRefused line)) first now n is one cause opened e = absurd (cc)
+      unopened (Run (RunCut (CoreLimit node))) first now n is one cause opened e = absurd (cc)
+      unopened (Run (RunCut CoreMemory)) first now n is one cause opened e = absurd (cc)
+      unopened (Run (CutRead stream)) first now n is one cause opened e = absurd (cc)
+      unopened (Run (CutLarge stream)) first now n is one cause opened e = absurd (cc)
+      unopened (Run (CutRefused line)) first now n is one cause opened e = absurd (cc)
+      unopened (Run WriteFailed) first now n is one cause opened e = absurd (cc)
+      unopened (Run RunMemory) first now n is one cause opened e = absurd (cc)
+
+    pub write_failed : (stop : FilesStop) (first now after : SinkState) → CauseBy Beyond stop files mid new first now → now.faults ≤ after.faults → files_status F stop ≡ WriteFault → Rose first.faults after.faults
+    write_failed (Opening (Fault stream)) first now after cause le e = absurd (cc)
+    write_failed (Opening OpeningMemory) first now after cause le e = absurd (cc)
+    write_failed (Run (RunFault stream)) first now after cause le e = absurd (cc)
+    write_failed (Run (TooLarge stream)) first now after cause le e = absurd (cc)
+    write_failed (Run (RunLimit node)) first now after cause le e = absurd (cc)
+    write_failed (Run (RunRefused line)) first now after cause le e = absurd (cc)
+    write_failed (Run (RunCut (CoreLimit node))) first now after cause le e = absurd (cc)
+    write_failed (Run (RunCut CoreMemory)) first now after cause le e = absurd (cc)
+    write_failed (Run (CutRead stream)) first now after cause le e = absurd (cc)
+    write_failed (Run (CutLarge stream)) first now after cause le e = absurd (cc)
+    write_failed (Run (CutRefused line)) first now after cause le e = absurd (cc)
+    write_failed (Run WriteFailed) first now after cause le e = omega (arith, cause, le)
+    write_failed (Run RunMemory) first now after cause le e = absurd (cc)
+
+    pub beyond : (stop : FilesStop) (first now : SinkState) (node : ℕ) → CauseBy Beyond stop files mid new first now → files_status F stop ≡ Limit (Node node) → Beyond node
+    beyond (Opening (Fault stream)) first now node cause e = absurd (cc)
+    beyond (Opening OpeningMemory) first now node cause e = absurd (cc)
+    beyond (Run (RunFault stream)) first now node cause e = absurd (cc)
+    beyond (Run (TooLarge stream)) first now node cause e = absurd (let what : File stream ≡ Node node = cc e in cc)
+    beyond (Run (RunRefused line)) first now node cause e = absurd (cc)
+    beyond (Run (RunLimit n)) first now node cause e = let what : Node n ≡ Node node = cc e in let same : n ≡ node = cc what in subst Beyond same cause
+    beyond (Run (RunCut (CoreLimit n))) first now node cause e = let what : Node n ≡ Node node = cc e in let same : n ≡ node = cc what in subst Beyond same cause.1
+    beyond (Run (RunCut CoreMemory)) first now node cause e = absurd (cc)
+    beyond (Run (CutRead stream)) first now node cause e = absurd (cc)
+    beyond (Run (CutLarge stream)) first now node cause e = absurd (let what : File stream ≡ Node node = cc e in cc)
+    beyond (Run (CutRefused line)) first now node cause e = absurd (cc)
+    beyond (Run WriteFailed) first now node cause e = absurd (cc)
+    beyond (Run RunMemory) first now node cause e = absurd (cc)
+
+    large_file : (s : ℕ) (stream : ℕ) → IsBuilt call → IsLargeFile s files mid → Limit (File s) ≡ Limit (File stream) → IsTooLarge call stream
+    large_file s stream is_built cause e =
+        let what : File s ≡ File stream = cc e in
+        let same : s ≡ stream = cc what in
+        subst (IsTooLarge call) same
         (record {
-          fault = fault_at stream is cause;
-          before = length lead + stream;
-          number = let e : length lead + stream + 1 ≡ F + stream = omega (arith, number) in e;
-          opened = then_opened one is stream opened.0;
+          built = is_built;
+          there = let all = ap length are in let there = cause.there in omega (arith, all, there);
+          bytes = λ t.
+              let at = at_operand s in
+              let told_mid : IsTrue (mid.told (slice_index_or files s [])) = subst (λ (f : List ℕ → Bool). IsTrue (f (slice_index_or files s []))) (sym told) (subst (λ (n : List ℕ). IsTrue (call.folder.told n)) at t) in
+              let most = cause.bytes told_mid in
+              subst (λ (n : List ℕ). 2 ^ 40 ≤ length (call.folder.contents n)) (sym at) (subst (λ (f : List ℕ → List ℕ). 2 ^ 40 ≤ length (f (slice_index_or files s []))) contents most);
         })
-    unopened (Opening OpeningMemory) job first now n is one cause opened e = absurd (cc)
-    unopened (Run (RunFault stream)) job first now n is one cause opened e = absurd (cc)
-    unopened (Run (TooLarge stream)) job first now n is one cause opened e = absurd (cc)
-    unopened (Run (RunLimit node)) job first now n is one cause opened e = absurd (cc)
-    unopened (Run (RunRefused line)) job first now n is one cause opened e = absurd (cc)
-    unopened (Run (RunCut (CoreLimit node))) job first now n is one cause opened e = absurd (cc)
-    unopened (Run (RunCut CoreMemory)) job first now n is one cause opened e = absurd (cc)
-    unopened (Run (CutRead stream)) job first now n is one cause opened e = absurd (cc)
-    unopened (Run (CutLarge stream)) job first now n is one cause opened e = absurd (cc)
-    unopened (Run (CutRefused line)) job first now n is one cause opened e = absurd (cc)
-    unopened (Run WriteFailed) job first now n is one cause opened e = absurd (cc)
-    unopened (Run RunMemory) job first now n is one cause opened e = absurd (cc)
 
-  pub write_failed : (stop : FilesStop) (job : Job) (first now after : SinkState) → FilesCause stop job files mid new first now → now.faults ≤ after.faults → files_status F stop ≡ WriteFault → Rose first.faults after.faults
-  write_failed (Opening (Fault stream)) job first now after cause le e = absurd (cc)
-  write_failed (Opening OpeningMemory) job first now after cause le e = absurd (cc)
-  write_failed (Run (RunFault stream)) job first now after cause le e = absurd (cc)
-  write_failed (Run (TooLarge stream)) job first now after cause le e = absurd (cc)
-  write_failed (Run (RunLimit node)) job first now after cause le e = absurd (cc)
-  write_failed (Run (RunRefused line)) job first now after cause le e = absurd (cc)
-  write_failed (Run (RunCut (CoreLimit node))) job first now after cause le e = absurd (cc)
-  write_failed (Run (RunCut CoreMemory)) job first now after cause le e = absurd (cc)
-  write_failed (Run (CutRead stream)) job first now after cause le e = absurd (cc)
-  write_failed (Run (CutLarge stream)) job first now after cause le e = absurd (cc)
-  write_failed (Run (CutRefused line)) job first now after cause le e = absurd (cc)
-  write_failed (Run WriteFailed) job first now after cause le e = omega (arith, cause, le)
-  write_failed (Run RunMemory) job first now after cause le e = absurd (cc)
-
-  pub beyond : (stop : FilesStop) (job : Job) (first now : SinkState) (node : ℕ) → IsBuilt call → (HasToldJob call → job_of call ≡ Some job) → FilesCause stop job files mid new first now
-      → files_status F stop ≡ Limit (Node node) → BeyondLimit call node
-  beyond (Opening (Fault stream)) job first now node is_built read cause e = absurd (cc)
-  beyond (Opening OpeningMemory) job first now node is_built read cause e = absurd (cc)
-  beyond (Run (RunFault stream)) job first now node is_built read cause e = absurd (cc)
-  beyond (Run (TooLarge stream)) job first now node is_built read cause e = absurd (let what : File stream ≡ Node node = cc e in cc)
-  beyond (Run (RunRefused line)) job first now node is_built read cause e = absurd (cc)
-  beyond (Run (RunLimit n)) job first now node is_built read cause e =
-      let what : Node n ≡ Node node = cc e in
-      let same : n ≡ node = cc what in
-      record {
-        built = is_built;
-        beyond = λ all. (
-          job,
-          read (all.plan, all.script),
-          subst (GoesBeyond job (stream_files call)) same
-              (subst (λ (fs : List (List ℕ)). GoesBeyond job fs n) files_are (cause (files_told call files mid are told contents all))),
-        );
-      }
-  beyond (Run (RunCut (CoreLimit n))) job first now node is_built read cause e =
-      let what : Node n ≡ Node node = cc e in
-      let same : n ≡ node = cc what in
-      record {
-        built = is_built;
-        beyond = λ all. (
-          job,
-          read (all.plan, all.script),
-          subst (GoesBeyond job (stream_files call)) same
-              (subst (λ (fs : List (List ℕ)). GoesBeyond job fs n) files_are (cause.1 (files_told call files mid are told contents all))),
-        );
-      }
-  beyond (Run (RunCut CoreMemory)) job first now node is_built read cause e = absurd (cc)
-  beyond (Run (CutRead stream)) job first now node is_built read cause e = absurd (cc)
-  beyond (Run (CutLarge stream)) job first now node is_built read cause e = absurd (let what : File stream ≡ Node node = cc e in cc)
-  beyond (Run (CutRefused line)) job first now node is_built read cause e = absurd (cc)
-  beyond (Run WriteFailed) job first now node is_built read cause e = absurd (cc)
-  beyond (Run RunMemory) job first now node is_built read cause e = absurd (cc)
-
-  large_file : (s : ℕ) (job : Job) (first now : SinkState) (stream : ℕ) → IsBuilt call → IsLargeFile s files mid → Limit (File s) ≡ Limit (File stream) → IsTooLarge call stream
-  large_file s job first now stream is_built cause e =
-      let what : File s ≡ File stream = cc e in
-      let same : s ≡ stream = cc what in
-      subst (IsTooLarge call) same
-      (record {
-        built = is_built;
-        there = let all = ap length are in let there = cause.there in omega (arith, all, there);
-        bytes = λ t.
-            let at = at_operand s in
-            let told_mid : IsTrue (mid.told (slice_index_or files s [])) = subst (λ (f : List ℕ → Bool). IsTrue (f (slice_index_or files s []))) (sym told) (subst (λ (n : List ℕ). IsTrue (call.folder.told n)) at t) in
-            let most = cause.bytes told_mid in
-            subst (λ (n : List ℕ). 2 ^ 40 ≤ length (call.folder.contents n)) (sym at) (subst (λ (f : List ℕ → List ℕ). 2 ^ 40 ≤ length (f (slice_index_or files s []))) contents most);
-      })
-
-  pub too_large : (stop : FilesStop) (job : Job) (first now : SinkState) (stream : ℕ) → IsBuilt call → FilesCause stop job files mid new first now → files_status F stop ≡ Limit (File stream) → IsTooLarge call stream
-  too_large (Opening (Fault s)) job first now stream is_built cause e = absurd (cc)
-  too_large (Opening OpeningMemory) job first now stream is_built cause e = absurd (cc)
-  too_large (Run (RunFault s)) job first now stream is_built cause e = absurd (cc)
-  too_large (Run (TooLarge s)) job first now stream is_built cause e = large_file s job first now stream is_built cause e
-  too_large (Run (RunLimit node)) job first now stream is_built cause e = absurd (let what : Node node ≡ File stream = cc e in cc)
-  too_large (Run (RunCut (CoreLimit node))) job first now stream is_built cause e = absurd (let what : Node node ≡ File stream = cc e in cc)
-  too_large (Run (RunCut CoreMemory)) job first now stream is_built cause e = absurd (cc)
-  too_large (Run (CutRead s)) job first now stream is_built cause e = absurd (cc)
-  too_large (Run (CutLarge s)) job first now stream is_built cause e = large_file s job first now stream is_built cause.1 e
-  too_large (Run (CutRefused line)) job first now stream is_built cause e = absurd (cc)
-  too_large (Run WriteFailed) job first now stream is_built cause e = absurd (cc)
-  too_large (Run (RunRefused line)) job first now stream is_built cause e = absurd (cc)
-  too_large (Run RunMemory) job first now stream is_built cause e = absurd (cc)
+    pub too_large : (stop : FilesStop) (first now : SinkState) (stream : ℕ) → IsBuilt call → CauseBy Beyond stop files mid new first now → files_status F stop ≡ Limit (File stream) → IsTooLarge call stream
+    too_large (Opening (Fault s)) first now stream is_built cause e = absurd (cc)
+    too_large (Opening OpeningMemory) first now stream is_built cause e = absurd (cc)
+    too_large (Run (RunFault s)) first now stream is_built cause e = absurd (cc)
+    too_large (Run (TooLarge s)) first now stream is_built cause e = large_file s stream is_built cause e
+    too_large (Run (RunLimit node)) first now stream is_built cause e = absurd (let what : Node node ≡ File stream = cc e in cc)
+    too_large (Run (RunCut (CoreLimit node))) first now stream is_built cause e = absurd (let what : Node node ≡ File stream = cc e in cc)
+    too_large (Run (RunCut CoreMemory)) first now stream is_built cause e = absurd (cc)
+    too_large (Run (CutRead s)) first now stream is_built cause e = absurd (cc)
+    too_large (Run (CutLarge s)) first now stream is_built cause e = large_file s stream is_built cause.1 e
+    too_large (Run (CutRefused line)) first now stream is_built cause e = absurd (cc)
+    too_large (Run WriteFailed) first now stream is_built cause e = absurd (cc)
+    too_large (Run (RunRefused line)) first now stream is_built cause e = absurd (cc)
+    too_large (Run RunMemory) first now stream is_built cause e = absurd (cc)
 
   -- a step that is not enabled
   step_refused : (l : ℕ) (job : Job) (steps : Option (List (ℕ × ScriptStep))) (line : ℕ) → IsBuilt call → HasSteps call.script job.nodes call.folder steps → job.script ≡ steps → (HasToldJob call → job_of call ≡ Some job) → HasScript job
@@ -524,35 +548,36 @@ few_names nodes names sound each =
     omega (arith, few, count, each)
 
 -- few streams have small numbers
-pub of_few : (stop : FilesStop) (job : Job) (names : List (List ℕ)) (before after : FolderState) (first now : SinkState) → length names ≤ 128 → FilesCause stop job names before after first now → IsOfFew stop
-of_few (Opening (Fault stream)) job names before after first now few cause = let there = cause.there in omega (arith, few, there)
-of_few (Opening OpeningMemory) job names before after first now few cause = tt
-of_few (Run (RunFault stream)) job names before after first now few cause = let there = cause.there in omega (arith, few, there)
-of_few (Run (TooLarge stream)) job names before after first now few cause = tt
-of_few (Run (RunLimit node)) job names before after first now few cause = tt
-of_few (Run (RunRefused line)) job names before after first now few cause = tt
-of_few (Run (CutRead stream)) job names before after first now few cause = let there = cause.1.there in omega (arith, few, there)
-of_few (Run (CutLarge stream)) job names before after first now few cause = tt
-of_few (Run (CutRefused line)) job names before after first now few cause = tt
-of_few (Run (RunCut stop)) job names before after first now few cause = tt
-of_few (Run WriteFailed) job names before after first now few cause = tt
-of_few (Run RunMemory) job names before after first now few cause = tt
+pub of_few : (Beyond : ℕ → Type 0) (stop : FilesStop) (names : List (List ℕ)) (before after : FolderState) (first now : SinkState) → length names ≤ 128 → CauseBy Beyond stop names before after first now → IsOfFew stop
+of_few Beyond (Opening (Fault stream)) names before after first now few cause = let there = cause.there in omega (arith, few, there)
+of_few Beyond (Opening OpeningMemory) names before after first now few cause = tt
+of_few Beyond (Run (RunFault stream)) names before after first now few cause = let there = cause.there in omega (arith, few, there)
+of_few Beyond (Run (TooLarge stream)) names before after first now few cause = tt
+of_few Beyond (Run (RunLimit node)) names before after first now few cause = tt
+of_few Beyond (Run (RunRefused line)) names before after first now few cause = tt
+of_few Beyond (Run (CutRead stream)) names before after first now few cause = let there = cause.1.there in omega (arith, few, there)
+of_few Beyond (Run (CutLarge stream)) names before after first now few cause = tt
+of_few Beyond (Run (CutRefused line)) names before after first now few cause = tt
+of_few Beyond (Run (RunCut stop)) names before after first now few cause = tt
+of_few Beyond (Run WriteFailed) names before after first now few cause = tt
+of_few Beyond (Run RunMemory) names before after first now few cause = tt
 
 handed_later : (first now last : SinkState) → first.faults ≤ now.faults → HandedOn now last → HandedOn first last
 handed_later first now last le handed = elim handed [ inl none ↦ inl none | inr rose ↦ inr (omega (arith, rose, le)) ]
 
 -- the sink holds nothing back behind the line of a stop, and where the output failed its faults rose
-pub stop_handed : (stop : FilesStop) (job : Job) (names : List (List ℕ)) (before after : FolderState) (first now last : SinkState) → FilesCause stop job names before after first now → first.faults ≤ now.faults → now.faults ≤ last.faults
+pub stop_handed : (Beyond : ℕ → Type 0) (stop : FilesStop) (names : List (List ℕ)) (before after : FolderState) (first now last : SinkState) → CauseBy Beyond stop names before after first now → first.faults ≤ now.faults → now.faults ≤ last.faults
     → (IsStopTold stop → HandedOn now last) → HandedOn first last
-stop_handed (Opening (Fault stream)) job names before after first now last cause le more line = handed_later first now last le (line tt)
-stop_handed (Opening OpeningMemory) job names before after first now last cause le more line = handed_later first now last le (line tt)
-stop_handed (Run (RunFault stream)) job names before after first now last cause le more line = handed_later first now last le (line tt)
-stop_handed (Run (TooLarge stream)) job names before after first now last cause le more line = handed_later first now last le (line tt)
-stop_handed (Run (RunLimit node)) job names before after first now last cause le more line = handed_later first now last le (line tt)
-stop_handed (Run (RunRefused line)) job names before after first now last cause le more written = handed_later first now last le (written tt)
-stop_handed (Run WriteFailed) job names before after first now last cause le more line = inr (omega (arith, cause, more))
-stop_handed (Run (RunCut stop)) job names before after first now last cause le more line = let rose = cause.0 in inr (omega (arith, rose, more))
-stop_handed (Run (CutRead stream)) job names before after first now last cause le more handed = let rose = cause.0 in inr (omega (arith, rose, more))
-stop_handed (Run (CutLarge stream)) job names before after first now last cause le more handed = let rose = cause.0 in inr (omega (arith, rose, more))
-stop_handed (Run (CutRefused line)) job names before after first now last cause le more handed = let rose = cause.0 in inr (omega (arith, rose, more))
-stop_handed (Run RunMemory) job names before after first now last cause le more line = handed_later first now last le (line tt)
+stop_handed Beyond (Opening (Fault stream)) names before after first now last cause le more line = handed_later first now last le (line tt)
+stop_handed Beyond (Opening OpeningMemory) names before after first now last cause le more line = handed_later first now last le (line tt)
+stop_handed Beyond (Run (RunFault stream)) names before after first now last cause le more line = handed_later first now last le (line tt)
+stop_handed Beyond (Run (TooLarge stream)) names before after first now last cause le more line = handed_later first now last le (line tt)
+stop_handed Beyond (Run (RunLimit node)) names before after first now last cause le more line = handed_later first now last le (line tt)
+stop_handed Beyond (Run (RunRefused line)) names before after first now last cause le more written = handed_later first now last le (written tt)
+stop_handed Beyond (Run WriteFailed) names before after first now last cause le more line = inr (omega (arith, cause, more))
+stop_handed Beyond (Run (RunCut (CoreLimit node))) names before after first now last cause le more line = let rose = cause.0 in inr (omega (arith, rose, more))
+stop_handed Beyond (Run (RunCut CoreMemory)) names before after first now last cause le more line = let rose = cause.0 in inr (omega (arith, rose, more))
+stop_handed Beyond (Run (CutRead stream)) names before after first now last cause le more handed = let rose = cause.0 in inr (omega (arith, rose, more))
+stop_handed Beyond (Run (CutLarge stream)) names before after first now last cause le more handed = let rose = cause.0 in inr (omega (arith, rose, more))
+stop_handed Beyond (Run (CutRefused line)) names before after first now last cause le more handed = let rose = cause in inr (omega (arith, rose, more))
+stop_handed Beyond (Run RunMemory) names before after first now last cause le more line = handed_later first now last le (line tt)

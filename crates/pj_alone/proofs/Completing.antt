@@ -13,12 +13,24 @@ use Rattle.pj_run.specs.Jobs.{Job}
 use Rattle.pj_script.specs.declared.step.ScriptStep.{ScriptStep}
 use Rattle.pj_plan.specs.Nodes.{streams_in}
 use Rattle.pj_feed.specs.Feeds.{accepted_of}
-use Rattle.pj_run.specs.Runs.{refused_by, refused_line, run_nodes}
+use Rattle.pj_run.specs.Runs.{elements_to, refused_by, refused_line, run_nodes}
+use Rattle.pj_algebra.specs.Answers.{IsCounted}
 use Rattle.pj_alone.specs.Completeness.{Completes, NoneRose, RoomFor}
 use Rattle.pj_prepare.specs.Refusals.{IsRefused}
 use Rattle.pj_alone.specs.Top.{BeyondLimit, HasFault, IsBuilt, IsFit, IsLineRefused, IsPlayable, CanPlay, IsScriptTooLong, IsTooLarge, IsUnopened, WriteFails}
 use Rattle.pj_alone.proofs.EarlyLaws.{IsOfPlan, fit_never}
 use Rattle.pj_prepare.proofs.Operands.{count_leading, operand_at}
+
+-- there is something to run, and to this node, a join or a group, more elements come in all than may
+pub record ComesOver (call : Call) (node : ℕ) : Type 0 where
+  pub built : IsBuilt call
+  pub beyond : IsTold call → (job : Job) × (job_of call ≡ Some job) × IsCounted job.nodes node × (job.limit < elements_to job (stream_files call) node)
+
+pub comes_over : (call : Call) (node : ℕ) → BeyondLimit call node → ComesOver call node
+comes_over call node b = record {
+  built = b.built;
+  beyond = λ all. let over = b.beyond all in (over.0, over.1, over.2.counted, over.2.many);
+}
 
 -- when each status comes that is neither done nor want of memory
 pub record HasCauses (answer : Status) (call : Call) (after : FolderState) (old new : SinkState) : Type 0 where
@@ -29,7 +41,7 @@ pub record HasCauses (answer : Status) (call : Call) (after : FolderState) (old 
   pub open_fault : (n : ℕ) → answer ≡ OpenFault n → IsUnopened call after n
   pub read_fault : (n : ℕ) → answer ≡ ReadFault n → HasFault call after n
   pub write_fault : answer ≡ WriteFault → WriteFails call old new
-  pub limit : (node : ℕ) → answer ≡ Limit (Node node) → BeyondLimit call node
+  pub limit : (node : ℕ) → answer ≡ Limit (Node node) → ComesOver call node
   pub file_limit : (stream : ℕ) → answer ≡ Limit (File stream) → IsTooLarge call stream
 
 -- nothing hinders a call: it asks for something that is not refused, and its run meets no limit
@@ -38,7 +50,7 @@ record GoesOn (call : Call) : Type 0 where
   unrefused : (status : Status) → IsRefused call status → ⊥
   unlimited : IsScriptTooLong call → ⊥
   stepped : (line : ℕ) → IsLineRefused call line → ⊥
-  within : (node : ℕ) → BeyondLimit call node → ⊥
+  within : (node : ℕ) → ComesOver call node → ⊥
   fits : (stream : ℕ) → IsTooLarge call stream → ⊥
 
 done_or_memory : (answer : Status) (call : Call) (after : FolderState) (old new : SinkState) → GoesOn call → NoneRose call after old new → HasCauses answer call after old new → (answer ≡ Done) ⊎ (answer ≡ NoMemory)
@@ -71,11 +83,11 @@ module _ (call : Call) (told : IsTold call) (built : IsBuilt call) (room : RoomF
       let many = count_leading (operand call.names 1) call.script in
       ap (λ (names : List (List ℕ)). operand names (first_file call + stream)) built.named ∙ operand_at lead (file_names call) (first_file call + stream) stream (omega (arith, many))
 
-  never_beyond : (node : ℕ) → BeyondLimit call node → ⊥
+  never_beyond : (node : ℕ) → ComesOver call node → ⊥
   never_beyond node limit =
       let b = limit.beyond told in
-      let few = (room b.0 b.1).elements node b.2.counted in
-      let many = b.2.many in
+      let few = (room b.0 b.1).elements node b.2 in
+      let many = b.3 in
       omega (arith, few, many)
 
   never_large : (stream : ℕ) → IsTooLarge call stream → ⊥

@@ -30,8 +30,7 @@ use Rattle.pj_judge.specs.Judgments.{AreUnsafeLines}
 use Rattle.pj_prepare.specs.Refusals.{HasLines, HasPlan, HasStreams, PlanUnfit, IsRefused, Refuses, RefusesBytes, RefusesPlan, RefusesRead, Unprepared}
 use Rattle.pj_prepare.specs.Stops.{plan_status, refusal_text}
 use Rattle.pj_run.specs.Stops.{files_status}
-use Rattle.pj_alone.specs.Endings.{at_words, at_plan, at_opening, ending_of, ComesAt, EarlyLeaves, KeepsLast}
-use Rattle.pj_alone.specs.Promises.{Ends}
+use Rattle.pj_alone.specs.Endings.{at_words, at_plan, at_opening, ending_of, ComesAt, EarlyLeaves, Ending, EndsBy, KeepsLast}
 use Rattle.pj_alone.specs.Top.{AnswersRefusal, AnswersScript, HasFault, IsBuilt, IsFit, IsUnopened}
 use Rattle.pj_report.specs.Report.{status_line}
 use Rattle.pj_report.specs.Written.{Delivered}
@@ -65,8 +64,8 @@ first_some None = omega arith
 first_some (Some name) = omega arith
 
 -- nothing was done, and the status' line was written
-pub ended_at_words : (call : Call) (status : Status) (new : FolderState) (first after : SinkState) → ComesAt status at_words → new ≡ call.folder → EarlyLeaves status call first after → Ends (ending_of call status new first after)
-ended_at_words call status new first after comes same left = (
+pub ended_at_words : (InRun : Ending → Type 0) (call : Call) (status : Status) (new : FolderState) (first after : SinkState) → ComesAt status at_words → new ≡ call.folder → EarlyLeaves status call first after → EndsBy InRun (ending_of call status new first after)
+ended_at_words InRun call status new first after comes same left = (
   at_words,
   record {
     comes = comes;
@@ -78,9 +77,9 @@ ended_at_words call status new first after comes same left = (
   },
 )
 
-module _ (call : Call) (new : FolderState) (first after : SinkState) (stay : StayOutside (take 1 call.names) call.folder new) where
+module _ (InRun : Ending → Type 0) (call : Call) (new : FolderState) (first after : SinkState) (stay : StayOutside (take 1 call.names) call.folder new) where
   -- the plan's file was opened
-  ended_at_plan : (status : Status) → ComesAt status at_plan → OpensFirst 1 call.names call.folder new → EarlyLeaves status call first after → Ends (ending_of call status new first after)
+  ended_at_plan : (status : Status) → ComesAt status at_plan → OpensFirst 1 call.names call.folder new → EarlyLeaves status call first after → EndsBy InRun (ending_of call status new first after)
   ended_at_plan status comes opened left = (
     at_plan,
     record {
@@ -95,7 +94,7 @@ module _ (call : Call) (new : FolderState) (first after : SinkState) (stay : Sta
 
   -- it was not
   ended_before_plan : (status : Status) → ComesAt status (at_opening 0) → OpensFirst 0 call.names call.folder new → EarlyLeaves status call first after
-      → KeepsLast 0 (ending_of call status new first after) → Ends (ending_of call status new first after)
+      → KeepsLast 0 (ending_of call status new first after) → EndsBy InRun (ending_of call status new first after)
   ended_before_plan status comes opened left keeps = (
     at_opening 0,
     record {
@@ -112,12 +111,12 @@ module _ (call : Call) (new : FolderState) (first after : SinkState) (stay : Sta
   first_alone run opened = subst (λ (ns : List (List ℕ)). OpensFirst 1 ns call.folder new) (sym run.named) opened
 
   -- memory was wanting, before the plan's file was opened or behind
-  memory_ended : (count : ℕ) → count ≤ 1 → OpensFirst count call.names call.folder new → Delivered (status_line [] NoMemory) first after → Ends (ending_of call NoMemory new first after)
+  memory_ended : (count : ℕ) → count ≤ 1 → OpensFirst count call.names call.folder new → Delivered (status_line [] NoMemory) first after → EndsBy InRun (ending_of call NoMemory new first after)
   memory_ended zero most opened line = ended_before_plan NoMemory tt opened line (λ told t n is alone. absurd (cc))
   memory_ended (suc zero) most opened line = ended_at_plan NoMemory tt opened line
   memory_ended (suc (suc n)) most opened line = absurd (omega (arith, most))
 
-  pub ended_early : (stop : PlanStop) → OpensAtMost 1 call.names call.folder new → Unprepared stop call new → Delivered (refusal_text stop) first after → Ends (ending_of call (plan_status stop) new first after)
+  pub ended_early : (stop : PlanStop) → OpensAtMost 1 call.names call.folder new → Unprepared stop call new → Delivered (refusal_text stop) first after → EndsBy InRun (ending_of call (plan_status stop) new first after)
   ended_early (PlanFile NotOpened) most u line = ended_before_plan (OpenFault 1) (0, refl, refl) u.1.0 line (λ told t n is alone. u.1.2 (slice_index_or call.names 0 []))
   ended_early (PlanFile NotRead) most u line = ended_at_plan (ReadFault 1) (inl (refl, refl)) (first_alone u.0 u.1.0) line
   ended_early (PlanFile TooLong) most u line = ended_at_plan (Limit Plan) refl (first_alone u.0 u.1.0) line
@@ -127,7 +126,7 @@ module _ (call : Call) (new : FolderState) (first after : SinkState) (stay : Sta
   ended_early (Stuck found) most u line =
       ended_at_plan (Unsafe found.node found.risk) (inl refl) (first_alone u.0 u.1.0.0) (stuck_runs call found u.1.0.1 u.1.0.2, u.1.0.1, found.lines, λ told. (u.1.0.3 told).1, (stuck_of found (files_asked call) u.1.0.1 u.1.0.2).1, line)
   ended_early PlanMemory most (inl run) line = memory_ended most.0 most.1 most.2 line
-  ended_early PlanMemory most (inr same) line = ended_at_words call NoMemory new first after tt same line
+  ended_early PlanMemory most (inr same) line = ended_at_words InRun call NoMemory new first after tt same line
 
 -- ---- causes
 

@@ -7,8 +7,6 @@ use Rattle.pj_report.specs.declared.status.Status.TheVariants.{NoMemory}
 use Rattle.pj_report.specs.Report.{status_line}
 use Rattle.pj_report.specs.Written.{Delivered}
 use Rattle.pj_run.specs.Cuts.{files_cut}
-use Rattle.pj_run.specs.Jobs.{Job}
-use Rattle.pj_run.specs.RunEnds.{FilesCause}
 use Rattle.pj_run.specs.Stops.{files_status, stop_line}
 use Rattle.pj_run.specs.Whole.{LeavesWhole, WroteLines}
 use Rattle.pj_run.specs.declared.stops.FilesStop.{FilesStop}
@@ -21,6 +19,7 @@ use Rattle.pj_prepare.specs.declared.stops.PlanStop.TheVariants.{File as PlanFil
 use Rattle.pj_prepare.specs.declared.stops.StepsStop.{StepsStop}
 use Rattle.pj_prepare.specs.declared.stops.StepsStop.TheVariants.{File as ScriptFile, Refused as LineRefused, NoMemory as StepsMemory}
 use Rattle.pj_alone.specs.Endings.{MemoryLeaves}
+use Rattle.pj_alone.proofs.CallLaws.{CauseBy}
 use Rattle.pj_prepare.specs.Stops.{plan_status, refusal_text, steps_status}
 
 -- whole lines, and then the status' line
@@ -31,21 +30,21 @@ then_line first now after le wrote line told = elim (line told) [
 ]
 
 -- a run that stopped
-pub stopped_memory : (operand : ℕ) (stop : FilesStop) (job : Job) (names : List (List ℕ)) (before new : FolderState) (name : List ℕ) (first now after : SinkState) → FilesCause stop job names before new first now → (IsTrue after.told → LeavesWhole (files_cut stop) first.written now.written)
+pub stopped_memory : (Beyond : ℕ → Type 0) (operand : ℕ) (stop : FilesStop) (names : List (List ℕ)) (before new : FolderState) (name : List ℕ) (first now after : SinkState) → CauseBy Beyond stop names before new first now → (IsTrue after.told → LeavesWhole (files_cut stop) first.written now.written)
     → first.faults ≤ now.faults → now.faults ≤ after.faults → Delivered (stop_line operand stop name) now after → files_status operand stop ≡ NoMemory → MemoryLeaves first after
-stopped_memory operand (Opening (Fault stream)) job names before new name first now after cause leaves le more line is = absurd (cc)
-stopped_memory operand (Opening OpeningMemory) job names before new name first now after cause leaves le more line is = then_line first now after le leaves line
-stopped_memory operand (Run (RunFault stream)) job names before new name first now after cause leaves le more line is = absurd (cc)
-stopped_memory operand (Run (TooLarge stream)) job names before new name first now after cause leaves le more line is = absurd (cc)
-stopped_memory operand (Run (RunLimit node)) job names before new name first now after cause leaves le more line is = absurd (cc)
-stopped_memory operand (Run (RunRefused line)) job names before new name first now after cause leaves le more written is = absurd (cc)
-stopped_memory operand (Run (CutRead stream)) job names before new name first now after cause leaves le more written is = absurd (cc)
-stopped_memory operand (Run (CutLarge stream)) job names before new name first now after cause leaves le more written is = absurd (cc)
-stopped_memory operand (Run (CutRefused line)) job names before new name first now after cause leaves le more written is = absurd (cc)
-stopped_memory operand (Run WriteFailed) job names before new name first now after cause leaves le more line is = absurd (cc)
-stopped_memory operand (Run RunMemory) job names before new name first now after cause leaves le more line is = then_line first now after le leaves line
-stopped_memory operand (Run (RunCut (CoreLimit node))) job names before new name first now after cause leaves le more line is = absurd (cc)
-stopped_memory operand (Run (RunCut CoreMemory)) job names before new name first now after cause leaves le more line is = λ told. let rose = cause.0 in inr (omega (arith, rose, more))
+stopped_memory Beyond operand (Opening (Fault stream)) names before new name first now after cause leaves le more line is = absurd (cc)
+stopped_memory Beyond operand (Opening OpeningMemory) names before new name first now after cause leaves le more line is = then_line first now after le leaves line
+stopped_memory Beyond operand (Run (RunFault stream)) names before new name first now after cause leaves le more line is = absurd (cc)
+stopped_memory Beyond operand (Run (TooLarge stream)) names before new name first now after cause leaves le more line is = absurd (cc)
+stopped_memory Beyond operand (Run (RunLimit node)) names before new name first now after cause leaves le more line is = absurd (cc)
+stopped_memory Beyond operand (Run (RunRefused line)) names before new name first now after cause leaves le more written is = absurd (cc)
+stopped_memory Beyond operand (Run (CutRead stream)) names before new name first now after cause leaves le more written is = absurd (cc)
+stopped_memory Beyond operand (Run (CutLarge stream)) names before new name first now after cause leaves le more written is = absurd (cc)
+stopped_memory Beyond operand (Run (CutRefused line)) names before new name first now after cause leaves le more written is = absurd (cc)
+stopped_memory Beyond operand (Run WriteFailed) names before new name first now after cause leaves le more line is = absurd (cc)
+stopped_memory Beyond operand (Run RunMemory) names before new name first now after cause leaves le more line is = then_line first now after le leaves line
+stopped_memory Beyond operand (Run (RunCut (CoreLimit node))) names before new name first now after cause leaves le more line is = absurd (cc)
+stopped_memory Beyond operand (Run (RunCut CoreMemory)) names before new name first now after cause leaves le more line is = λ told. let rose = cause.0 in inr (omega (arith, rose, more))
 
 -- a call that had no plan to run
 pub early_memory : (stop : PlanStop) (old new : SinkState) → Delivered (refusal_text stop) old new → plan_status stop ≡ NoMemory → MemoryLeaves old new

@@ -10,14 +10,14 @@ use Rattle.pj_report.specs.declared.status.LimitOf.TheVariants.{Plan, Script, No
 use Rattle.pj_report.specs.Written.{Delivered, HandedOn}
 use Rattle.pj_prepare.specs.declared.stops.PlanStop.{PlanStop}
 use Rattle.pj_prepare.specs.Calls.{is_nothing, Call}
-use Rattle.pj_alone.specs.Endings.{ending_of}
+use Rattle.pj_alone.specs.Endings.{ending_of, RunLeaves}
 use Rattle.pj_alone.specs.Promises.{KeepsAll}
 use Rattle.pj_prepare.specs.Refusals.{Unprepared}
 use Rattle.pj_prepare.specs.Stops.{plan_status, refusal_text}
 use Rattle.pj_alone.proofs.Completing.{completes_by}
 use Rattle.pj_alone.proofs.EarlyLaws.{IsNoRefusal, answers_early, answers_script_early, early_lines, early_never, ended_early, fault_early, refused_early, unopened_early}
 use Rattle.pj_alone.proofs.MemoryLaws.{early_memory}
-use Rattle.pj_alone.proofs.StaysLaws.{never_early}
+use Rattle.pj_alone.proofs.StaysLaws.{StayInCall, never_early}
 
 pub keeps_refused : (call : Call) (after : FolderState) (old new : SinkState) → is_nothing call.task ≡ false → (stop : PlanStop) → OpensAtMost 1 call.names call.folder after → StayOutside (take 1 call.names) call.folder after
     → Unprepared stop call after → Delivered (refusal_text stop) old new → HandedOn old new → KeepsAll (ending_of call (plan_status stop) after old new)
@@ -31,8 +31,8 @@ keeps_refused call after old new something stop most stay cause line handed =
       tallies = λ runs is. absurd (never Done is tt);
       made = λ seed count makes is. absurd (never Done is tt);
       read_to_end = λ is. absurd (never Done is tt);
-      ending = ended_early call after old new stay stop most cause line;
-      never_retracted = λ writes all t. never_early stop call old new t (early_lines stop call after cause) line;
+      ending = ended_early RunLeaves call after old new stay stop most cause line;
+      never_retracted = λ writes all t. never_early (StayInCall call) stop old new t (early_lines stop call after cause) line;
       whole_lines = λ runs is. early_memory stop old new line is;
       handed_on = (handed, λ is. absurd (never Done is tt));
       cause_of_done = λ is. absurd (never Done is tt);

@@ -15,28 +15,33 @@ use Rattle.pj_run.specs.declared.stops.FilesStop.TheVariants.{Opening}
 use Rattle.pj_run.specs.Cuts.{files_cut}
 use Rattle.pj_run.specs.Jobs.{Job}
 use Rattle.pj_run.specs.RunEnds.{FilesCause, FilesEnd, FilesOpened}
-use Rattle.pj_run.specs.Runs.{IsAnswer, ArePunctuations, AreLawful, AreTallies, IsEnabled, due_lines, due_where, job_by, outputs_of, report_of, run_lines, StaysInLimit}
+use Rattle.pj_run.specs.Runs.{IsAnswer, ArePunctuations, AreLawful, AreTallies, IsEnabled, due_lines, due_where, job_by, outputs_of, report_of, run_lines, GoesBeyond, StaysInLimit}
 use Rattle.pj_run.specs.Stops.{files_status, stop_line, IsStopTold}
 use Rattle.pj_run.specs.Whole.{LeavesWhole}
 use Rattle.pj_run.proofs.OutputLaws.{outputs_lawful, outputs_answer, outputs_puncts}
 use Rattle.pj_run.proofs.Planned.{IsPlanned, new_planned}
 use Rattle.pj_script.specs.declared.step.ScriptStep.{ScriptStep}
 use Rattle.pj_prepare.specs.declared.calls.Prepared.{Prepared}
-use Rattle.pj_prepare.specs.Calls.{making, running, is_nothing, leading, script_names, Call, file_names, first_file, job_of, operand, script_fault, stream_files, takes_plan, HasToldJob, IsTold, IsToldIn, Task}
-use Rattle.pj_alone.specs.Endings.{ending_of, stop_name, AreSteps, IsScriptRead}
+use Rattle.pj_prepare.specs.declared.calls.Ready.{Ready}
+use Rattle.pj_prepare.specs.declared.calls.Ready.TheVariants.{Run as ReadyRun}
+use Rattle.pj_prepare.specs.Ready.{IsReadyFor}
+use Rattle.pj_prepare.specs.Calls.{making, running, is_nothing, leading, script_names, Call, file_names, first_file, job_of, operand, script_fault, stream_files, takes_plan, HasReadPlan, HasToldJob, IsTold, IsToldIn, Task}
+use Rattle.pj_alone.specs.Endings.{ending_of, stop_name, RunLeaves, AreSteps, IsScriptRead}
 use Rattle.pj_prepare.specs.Plans.{outline_in}
 use Rattle.pj_alone.specs.Promises.{KeepsAll}
 use Rattle.pj_prepare.specs.Scripts.{HasSteps, IsPrepared, IsSetUp, ReadsScript, SpellsSteps}
 use Rattle.pj_io.specs.Folders.{NoneFalls}
 use Rattle.pj_feed.proofs.Names.{same_or_other}
 use Rattle.pj_feed.proofs.Outside.{stay_then, stay_wider}
-use Rattle.pj_alone.specs.Top.{AnswersScript, IsBuilt, IsFit, CanPlay, RefusesScript, KeepsLimit}
-use Rattle.pj_alone.proofs.CallLaws.{all_read, are_steps, beyond, built, ended_done, ended_stop, faulted, files_same, files_told, job_read, line_refused, none_refused, stop_handed, steps_are, told_named, too_large, unopened, write_failed}
-use Rattle.pj_alone.proofs.Completing.{completes_by}
+use Rattle.pj_alone.specs.Top.{AnswersScript, BeyondLimit, IsBuilt, IsFit, CanPlay, RefusesScript, KeepsLimit}
+use Rattle.pj_alone.proofs.CallLaws.{all_read, are_steps, beyond, built, cause_by, ended_done, ended_stop, faulted, files_same, files_told, goes_over, job_read, leaves_run, line_refused, none_refused, stop_handed, steps_are, told_named, too_large, unopened, write_failed}
+use Rattle.pj_alone.proofs.Completing.{comes_over, completes_by}
 use Rattle.pj_alone.proofs.EarlyLaws.{answers_built, no_refusal, stop_never, IsNoStop}
 use Rattle.pj_alone.proofs.MemoryLaws.{stopped_memory}
 use Rattle.pj_prepare.proofs.Operands.{count_leading, opens_on}
 use Rattle.pj_alone.proofs.RunLaws.{ran}
+use Rattle.pj_alone.proofs.VerdictLaws.{ready_run}
+use Rattle.std.specs.Prelude.{take}
 use Rattle.pj_alone.proofs.StaysLaws.{IsReady, never_done, never_stopped}
 
 -- ---- the script was read behind the plan
@@ -83,6 +88,23 @@ scripted call ready steps old mid p has told contents later reads =
       later = λ name. let a = p.later name in let b = later name in omega (arith, a, b);
     }
 
+-- ---- the plan was read
+
+-- a call whose plan was read and is to be run
+pub prepared_so : (call : Call) (found : Ready) (ready : Prepared) (now : FolderState) → IsReadyFor call found → found ≡ ReadyRun ready → now.told ≡ call.folder.told → now.contents ≡ call.folder.contents → HasReadPlan call now
+    → OpensFirst 1 call.names call.folder now → StayOutside (take 1 call.names) call.folder now → NoneFalls call.folder.faults now.faults → IsPrepared ready call now
+prepared_so call found ready now is of told contents last opened others later =
+    let run = ready_run call found ready is of in
+    record {
+      run = run;
+      told = told;
+      contents = contents;
+      last = last;
+      opened = subst (λ (ns : List (List ℕ)). OpensFirst 1 ns call.folder now) run.form.named opened;
+      others = subst (λ (ns : List (List ℕ)). StayOutside (take 1 ns) call.folder now) run.form.named others;
+      later = later;
+    }
+
 -- ---- its run
 
 module _ (call : Call) (ready : Prepared) (steps : Option (List (ℕ × ScriptStep))) (mid new : FolderState) (s : IsSetUp ready steps call mid) (files : List (List ℕ)) (are : files ≡ file_names call) where
@@ -98,46 +120,46 @@ module _ (call : Call) (ready : Prepared) (steps : Option (List (ℕ × ScriptSt
   abbrev fs : List (List ℕ)
   fs = files_named files mid
 
-  is_built : IsBuilt call
+  pub is_built : IsBuilt call
   is_built = built call (outline_in ready.core) s.run.form s.run.count s.run.safe s.run.read
 
-  named : call.names ≡ lead ++ files
+  pub named : call.names ≡ lead ++ files
   named = s.run.form.named ∙ ap (λ (ns : List (List ℕ)). lead ++ ns) (sym are)
 
-  number : first_file call ≡ suc (length lead)
+  pub number : first_file call ≡ suc (length lead)
   number = count_leading (operand call.names 1) call.script
 
-  some : 1 ≤ length lead
+  pub some : 1 ≤ length lead
   some = omega arith
 
-  fits : IsFit call.task call
+  pub fits : IsFit call.task call
   fits = subst (λ t. IsFit t call) (sym is_built.form) is_built
 
-  read : HasToldJob call → job_of call ≡ Some job
+  pub read : HasToldJob call → job_of call ≡ Some job
   read t = job_read call ready steps s.run.asked (s.run.read t.0).0 (steps_are call.script nodes call.folder steps s.steps t.1)
 
-  read_all : IsTold call → job_of call ≡ Some job
+  pub read_all : IsTold call → job_of call ≡ Some job
   read_all all = read (all.plan, all.script)
 
-  planned : IsPlanned job
+  pub planned : IsPlanned job
   planned = new_planned steps ready.writing ready.core s.run.fresh (are_steps call.script nodes call.folder steps s.steps)
 
   is_ready : IsTold call → IsReady job call
   is_ready all = record { read = read_all all; planned = planned; names = s.run.fresh.names }
 
-  told : IsTold call → AreTold files mid
+  pub told : IsTold call → AreTold files mid
   told all = files_told call files mid are s.told s.contents all
 
-  same : fs ≡ stream_files call
+  pub same : fs ≡ stream_files call
   same = files_same call files mid are s.told s.contents
 
-  runs_alone : (seed count : ℕ) → call.task ≡ making seed count → ⊥
+  pub runs_alone : (seed count : ℕ) → call.task ≡ making seed count → ⊥
   runs_alone seed count makes = let e : running ≡ making seed count = sym is_built.form ∙ makes in cc
 
   -- ---- the script
 
   -- each line of it is a step, and it is of few enough bytes
-  plays : (script : Option (List ℕ)) → call.script ≡ script → HasSteps script nodes call.folder steps → (AreTold (file_names call) call.folder → IsEnabled job (stream_files call)) → CanPlay script call
+  pub plays : (script : Option (List ℕ)) → call.script ≡ script → HasSteps script nodes call.folder steps → (AreTold (file_names call) call.folder → IsEnabled job (stream_files call)) → CanPlay script call
   plays None is has enabled = tt
   plays (Some name) is has enabled = λ t. (
     (has.3 (subst (λ (script : Option (List ℕ)). IsToldIn script call.folder) is t.1)).0,
@@ -152,11 +174,11 @@ module _ (call : Call) (ready : Prepared) (steps : Option (List (ℕ × ScriptSt
     (outline_in ready.core, (s.run.read t.0).0, none_refused call.script nodes call.folder steps s.steps t.1),
   )
 
-  seen : IsScriptRead call
+  pub seen : IsScriptRead call
   seen = are_read call.script refl s.steps
 
   -- a script that was read is not refused
-  reads_steps : (status : Status) → AnswersScript status call
+  pub reads_steps : (status : Status) → AnswersScript status call
   reads_steps status b t name is other refuses = absurd (go (subst (λ (script : Option (List ℕ)). HasSteps script nodes call.folder steps) is s.steps) refuses)
     where
       go : HasSteps (Some name) nodes call.folder steps → RefusesScript call (call.folder.contents name) other → ⊥
@@ -183,7 +205,7 @@ module _ (call : Call) (ready : Prepared) (steps : Option (List (ℕ × ScriptSt
     script_read_on None is = tt
     script_read_on (Some name) is = ((λ t. still name t (s.script_last name is t)), tt)
 
-    lead_read : AreReadToEnd lead call.folder new
+    pub lead_read : AreReadToEnd lead call.folder new
     lead_read = ((λ t. still (operand call.names 1) t (s.last t)), script_read_on call.script refl)
 
   -- ---- the run is done
@@ -208,7 +230,7 @@ module _ (call : Call) (ready : Prepared) (steps : Option (List (ℕ × ScriptSt
         tallies = λ _ _ all t. ran AreTallies job call fs first now (read_all all) (enabled (told all)) same (lines (told all) t) refl;
         made = λ seed count makes _. absurd (runs_alone seed count makes);
         read_to_end = λ _. all_read call files mid are s.told s.contents lead new named (lead_read keeps) last;
-        ending = ended_done call lead files mid new named are number s.told s.contents s.others s.opened is_built seen first now opened stay;
+        ending = ended_done call lead files mid new named are number s.told s.contents s.others RunLeaves s.opened is_built seen first now opened stay;
         never_retracted = λ _ all t. never_done job call first.written now.written (is_ready all) (lines (told all) t ∙ ap (λ (bytes : List (List ℕ)). first.written ++ flat (run_lines job bytes)) same);
         whole_lines = λ _ is. absurd (cc);
         handed_on = (inl held, λ _. held);
@@ -233,6 +255,9 @@ module _ (call : Call) (ready : Prepared) (steps : Option (List (ℕ × ScriptSt
 
   -- ---- the run stopped
 
+  goes_so : (node : ℕ) → goes_over job files mid node → BeyondLimit call node
+  goes_so node over = record { built = is_built; beyond = λ all. (job, read_all all, subst (λ (fs : List (List ℕ)). GoesBeyond job fs node) same (over (told all))) }
+
   pub keeps_stopped : (stop : FilesStop) (name : List ℕ) (first now after : SinkState) → name ≡ stop_name nodes (files_status (first_file call) stop) → FilesCause stop job files mid new first now
       → (AreTold files mid → IsTrue now.told → Leaves (files_cut stop) (due_lines job fs) first.written now.written) → (IsTrue now.told → LeavesWhole (files_cut stop) first.written now.written)
       → (AreTold files mid → IsTrue now.told → FilesEnd stop job files mid new first.written now.written) → ((opening : OpeningStop) → stop ≡ Opening opening → now ≡ first) → FilesOpened (Err stop) files mid new
@@ -241,11 +266,13 @@ module _ (call : Call) (ready : Prepared) (steps : Option (List (ℕ × ScriptSt
   keeps_stopped stop name first now after is_name cause lines whole ends unchanged opened stay later tells line handed more =
       let F = first_file call in
       let never : (other : Status) → files_status F stop ≡ other → IsNoStop other → ⊥ = λ other is no. stop_never F stop other is no in
-      let open_fault = λ (n : ℕ) (is : files_status F stop ≡ OpenFault n). unopened call lead files mid new named are number s.told s.contents s.others s.later stop job first now n is_built s.opened cause opened is in
-      let read_fault = λ (n : ℕ) (is : files_status F stop ≡ ReadFault n). faulted call lead files mid new named are number s.told s.contents s.others s.later stop job first now n is_built cause is in
-      let write_fault = λ (is : files_status F stop ≡ WriteFault). write_failed call lead files mid new named are number s.told s.contents s.others stop job first now after cause more is in
-      let limit = λ (node : ℕ) (is : files_status F stop ≡ Limit (Node node)). beyond call lead files mid new named are number s.told s.contents s.others stop job first now node is_built read cause is in
-      let file_limit = λ (stream : ℕ) (is : files_status F stop ≡ Limit (File stream)). too_large call lead files mid new named are number s.told s.contents s.others stop job first now stream is_built cause is in
+      let by = cause_by stop job files mid new first now cause in
+      let over = goes_over job files mid in
+      let open_fault = λ (n : ℕ) (is : files_status F stop ≡ OpenFault n). unopened call lead files mid new named are number s.told s.contents s.others over s.later stop first now n is_built s.opened by opened is in
+      let read_fault = λ (n : ℕ) (is : files_status F stop ≡ ReadFault n). faulted call lead files mid new named are number s.told s.contents s.others over s.later stop first now n is_built by is in
+      let write_fault = λ (is : files_status F stop ≡ WriteFault). write_failed call lead files mid new named are number s.told s.contents s.others over stop first now after by more is in
+      let limit = λ (node : ℕ) (is : files_status F stop ≡ Limit (Node node)). goes_so node (beyond call lead files mid new named are number s.told s.contents s.others over stop first now node by is) in
+      let file_limit = λ (stream : ℕ) (is : files_status F stop ≡ Limit (File stream)). too_large call lead files mid new named are number s.told s.contents s.others over stop first now stream is_built by is in
       let script_line = λ (at : ℕ) (is : files_status F stop ≡ ScriptRefused at). line_refused call lead files mid new named are number s.told s.contents s.others stop job steps first now at is_built s.steps refl read cause is in
       record {
         answer = λ _ is. absurd (never Done is tt);
@@ -255,12 +282,14 @@ module _ (call : Call) (ready : Prepared) (steps : Option (List (ℕ × ScriptSt
         tallies = λ _ is. absurd (never Done is tt);
         made = λ seed count makes _. absurd (runs_alone seed count makes);
         read_to_end = λ is. absurd (never Done is tt);
-        ending = ended_stop call lead files mid new named are number s.told s.contents s.others s.opened is_built seen some stop job name first now after read is_name unchanged opened stay cause
-            (λ all t. lines (told all) (tells t)) (λ all t. ends (told all) (tells t)) later more line;
+        ending = ended_stop call lead files mid new named are number s.told s.contents s.others RunLeaves s.opened is_built seen some stop job.nodes name first now after is_name unchanged opened stay
+            (λ stream of all t. (subst (λ (st : FilesStop). FilesEnd st job files mid new first.written now.written) of (ends (told all) (tells t))).1)
+            (leaves_run call lead files mid new named are number s.told s.contents s.others stop job name first now after read is_name cause (λ all t. lines (told all) (tells t)) (λ all t. ends (told all) (tells t)) later more line)
+            line;
         never_retracted = λ _ all t. never_stopped F stop job call name first.written now after t (is_ready all) is_name
             (subst (λ (bytes : List (List ℕ)). Leaves (files_cut stop) (due_lines job bytes) first.written now.written) same (lines (told all) (tells t))) line;
-        whole_lines = λ _ is. stopped_memory F stop job files mid new name first now after cause (λ t. whole (tells t)) later more line is;
-        handed_on = (stop_handed stop job files mid new first now after cause later more handed, λ is. absurd (never Done is tt));
+        whole_lines = λ _ is. stopped_memory over F stop files mid new name first now after by (λ t. whole (tells t)) later more line is;
+        handed_on = (stop_handed over stop files mid new first now after by later more handed, λ is. absurd (never Done is tt));
         cause_of_done = λ is. absurd (never Done is tt);
         cause_of_usage = λ is. absurd (never Usage is tt);
         usage = λ none. absurd (false≢true (sym (ap is_nothing is_built.form) ∙ none));
@@ -285,7 +314,7 @@ module _ (call : Call) (ready : Prepared) (steps : Option (List (ℕ × ScriptSt
           open_fault = open_fault;
           read_fault = read_fault;
           write_fault = λ is. (write_fault is, fits);
-          limit = limit;
+          limit = λ node is. comes_over call node (limit node is);
           file_limit = file_limit;
         });
       }

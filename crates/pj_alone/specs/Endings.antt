@@ -280,15 +280,16 @@ KeepsLast place e =
     IsTold e.call → IsTrue e.new.told → (n : ℕ) → e.status ≡ OpenFault n → IsAlone place e.call.names
     → e.after.last (slice_index_or e.call.names place []) ≡ e.call.folder.last (slice_index_or e.call.names place [])
 
-abbrev pub LeavesAt : Stage → Ending → Type 0
-LeavesAt at_words e = EarlyLeaves e.status e.call e.old e.new
-LeavesAt at_plan e = EarlyLeaves e.status e.call e.old e.new
-LeavesAt at_verdict e = IsChecked e
-LeavesAt at_made e = HasMade e
-LeavesAt at_script e = EarlyLeaves e.status e.call e.old e.new
-LeavesAt (at_opening count) e = EarlyLeaves e.status e.call e.old e.new × KeepsLast count e
-LeavesAt in_run e = RunLeaves e
-LeavesAt at_end e = ⊤
+-- what a call leaves that came so far, where this is what a run leaves that stopped
+abbrev pub LeavesBy : (Ending → Type 0) → Stage → Ending → Type 0
+LeavesBy InRun at_words e = EarlyLeaves e.status e.call e.old e.new
+LeavesBy InRun at_plan e = EarlyLeaves e.status e.call e.old e.new
+LeavesBy InRun at_verdict e = IsChecked e
+LeavesBy InRun at_made e = HasMade e
+LeavesBy InRun at_script e = EarlyLeaves e.status e.call e.old e.new
+LeavesBy InRun (at_opening count) e = EarlyLeaves e.status e.call e.old e.new × KeepsLast count e
+LeavesBy InRun in_run e = InRun e
+LeavesBy InRun at_end e = ⊤
 
 -- ---- what is so of the script
 
@@ -328,10 +329,14 @@ ScriptAt at_end e = IsScriptRead e.call
 -- The call came so far: the files of the first operands were opened, in order and no others; of the names of operands that were not
 -- tried nothing changed; it came past the plan only where there is something to run, and past the script only where its lines are
 -- steps; and this is what it left
-pub record EndsAt (stage : Stage) (e : Ending) : Type 0 where
+pub record EndsAt (InRun : Ending → Type 0) (stage : Stage) (e : Ending) : Type 0 where
   pub comes : ComesAt e.status stage
   pub opened_first : OpensFirst (opened_at stage e.call) e.call.names e.call.folder e.after
   pub others_stay : StayOutside (take (tried_at stage e.call) e.call.names) e.call.folder e.after
   pub built : IsPastPlan stage → IsBuilt e.call
   pub script : ScriptAt stage e
-  pub left : LeavesAt stage e
+  pub left : LeavesBy InRun stage e
+
+-- it came to some stage, and left what is left there
+abbrev pub EndsBy : (Ending → Type 0) → Ending → Type 0
+EndsBy InRun e = (stage : Stage) × EndsAt InRun stage e

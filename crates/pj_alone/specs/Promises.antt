@@ -9,7 +9,7 @@ use Rattle.pj_run.specs.Runs.{IsAnswer, ArePunctuations, AreLawful, AreTallies}
 use Rattle.pj_safety.specs.declared.risk.PlanRisk.{PlanRisk}
 use Rattle.pj_prepare.specs.Calls.{nothing, running, checking, making, is_nothing, Task}
 use Rattle.pj_alone.specs.Completeness.{Completes}
-use Rattle.pj_alone.specs.Endings.{Ending, EndsAt, MemoryLeaves, Stage}
+use Rattle.pj_alone.specs.Endings.{Ending, EndsBy, MemoryLeaves, RunLeaves}
 use Rattle.pj_alone.specs.Made.{IsMade}
 use Rattle.pj_prepare.specs.Refusals.{IsRefused}
 use Rattle.pj_alone.specs.Top.{AnswersRefusal, AnswersScript, BeyondLimit, HasFault, IsFit, IsLineRefused, IsPlayable, IsScriptTooLong, IsTooLarge, IsUnopened, NeverRetracted, OneThreadBytes, Ran, WriteFails, KeepsLimit}
@@ -49,7 +49,7 @@ ReadsToEnd e = e.status ≡ Done → AreReadToEnd e.call.names e.call.folder e.a
 
 -- it came to some stage, and left what is left there
 abbrev pub Ends : Ending → Type 0
-Ends e = (stage : Stage) × EndsAt stage e
+Ends e = EndsBy RunLeaves e
 
 -- it writes no results but those of a run: neither the check of a plan nor a made input writes any
 abbrev pub WritesResults : Task → Type 0

@@ -20,7 +20,7 @@ use Rattle.pj_prepare.specs.Refusals.{Refuses}
 use Rattle.pj_report.specs.Forms.{form_lines}
 use Rattle.pj_files.specs.Staying.{StaysRight}
 use Rattle.pj_run.specs.Jobs.{Job}
-use Rattle.pj_run.specs.Runs.{outs_of, refused_line, run_lines, GoesBeyond, IsEnabled, StaysInLimit}
+use Rattle.pj_run.specs.Runs.{history_of, outs_of, refused_line, run_lines, GoesBeyond, IsEnabled, StaysInLimit}
 use Rattle.pj_report.specs.Written.{flat, Spells}
 
 -- ---- a run that is done
@@ -86,7 +86,7 @@ KeepsLimit (making seed count) call = ⊤
 abbrev pub NeverRetracted : Call → SinkState → SinkState → Type 0
 NeverRetracted call old new =
     IsTold call → IsTrue new.told → (bytes : List ℕ) × (new.written ≡ old.written ++ bytes) × (outputs : List Element) × Spells bytes outputs
-    × IsLawful outputs × ((outputs ≡ []) ⊎ ((job : Job) × (job_of call ≡ Some job) × StaysRight job (stream_files call) outputs))
+    × IsLawful outputs × ((outputs ≡ []) ⊎ ((job : Job) × (job_of call ≡ Some job) × StaysRight job (history_of job (stream_files call)) outputs))
 
 -- ---- causes
 

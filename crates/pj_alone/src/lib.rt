@@ -10,3 +10,5 @@ mod verdict;
 
 pub use alone::run_alone;
 pub use pj_judge::check_text;
+pub use refusal::write_refusal;
+pub use run::stop_name;

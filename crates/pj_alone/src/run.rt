@@ -75,8 +75,8 @@ fn first_operand(script: &Option<List<(u64, ScriptStep)>>) -> u32
     }
 }
 
-// The name that the line of the status has, if any.
-fn stop_name(plan: &Plan, status: Status) -> &[u8]
+/// The name that the line of the status has, if any: that of the node or stream whose limit was met.
+pub fn stop_name(plan: &Plan, status: Status) -> &[u8]
     ensures { result.now ≡ stop_name_of plan.now.nodes status }
 {
     match status {

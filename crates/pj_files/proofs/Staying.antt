@@ -1,4 +1,4 @@
--- First outputs of a plan's run stay right.
+-- First outputs of a plan's history stay right.
 use Rattle.pj_run.specs.Jobs.{Job}
 use Rattle.pj_plan.specs.declared.node.PlanNode.{PlanNode}
 use Rattle.pj_shape.specs.declared.columns.Column.{Column}
@@ -30,7 +30,7 @@ use Rattle.pj_laws.proofs.FinalRows.{is-final}
 use Rattle.pj_join_laws.proofs.Upto.{length-upto}
 use Rattle.pj_laws.proofs.Steps.{elements-append}
 use Rattle.pj_core_laws.proofs.PlainAnswers.{answers-are-plain}
-use Rattle.pj_run.specs.Runs.{history_of, outputs_of, plan_run, run_nodes}
+use Rattle.pj_run.specs.Runs.{outs_by, plan_run, run_nodes}
 use Rattle.pj_report.specs.declared.writer.Form.{Form}
 use Rattle.pj_report.specs.declared.writer.Form.TheVariants.{AsTheyCome, Sorted, Summed}
 use Rattle.pj_report.specs.Forms.{in_form}
@@ -157,19 +157,19 @@ rows_front xs ys zs e f =
     let front = sub-front (rows_of xs) (rows_of ys) f in
     omega (arith, all, parts, front)
 
-right_front : (job : Job) (files : List (List ℕ)) (first others : List Element) (front back : List Entry) → IsPlanned job → IsLegal (run_nodes job) (history_of job files) → front ++ back ≡ history_of job files
+right_front : (job : Job) (history : List Entry) (first others : List Element) (front back : List Entry) → IsPlanned job → IsLegal (run_nodes job) history → front ++ back ≡ history
     → first ++ others ≡ in_form job.form (given_out job.trace (run_nodes job) front)
     → (more : List (List Element)) → AllLawful (streams_in job.nodes) (streams_after job front more) → SubBag (rows_of first) (answer_after job front more)
-right_front job files first others front back p whole run among more lawful f =
-    let legal = fronts-are-legal (run_nodes job) front back (subst (IsLegal (run_nodes job)) (sym run) whole) in
+right_front job history first others front back p legal run among more lawful f =
+    let legal = fronts-are-legal (run_nodes job) front back (subst (IsLegal (run_nodes job)) (sym run) legal) in
     let sub = is-final (run_nodes job) p.well_made p.some job.trace front legal (map rows_of (streams_after job front more)) (go_on job front more lawful) f in
     let plain = ap (weigh f) (answers-are-plain (plan_run job) (map rows_of (streams_after job front more))).answer in
     let given = given_out job.trace (run_nodes job) front in
     omega (arith, sub, plain, rows_front first others (in_form job.form given) among f, formed_at_most job.form given f)
 
 -- the form in which they are written
-module _ (job : Job) (files : List (List ℕ)) (first others : List Element) (p : IsPlanned job) (whole : IsLegal (run_nodes job) (history_of job files)) where
-  least_front : job.form ≡ AsTheyCome → first ++ others ≡ outputs_of job files → IsLeast job.trace (run_nodes job) (history_of job files) (length first) → StaysRight job files first
+module _ (job : Job) (history : List Entry) (first others : List Element) (p : IsPlanned job) (legal : IsLegal (run_nodes job) history) where
+  least_front : job.form ≡ AsTheyCome → first ++ others ≡ given_out job.trace (run_nodes job) history → IsLeast job.trace (run_nodes job) history (length first) → StaysRight job history first
   least_front is e cut =
       let now = cut.front ++ cut.last ∷ [] in
       let all = e ∙ (ap (given_out job.trace (run_nodes job)) (sym cut.run) ∙ given-append job.trace (run_nodes job) now cut.back) in
@@ -182,31 +182,32 @@ module _ (job : Job) (files : List (List ℕ)) (first others : List Element) (p 
         others = part.0;
         among = among;
         reaches = subst (λ (form : Form). ReachesSo form job now cut.back (length first)) (sym is) (inr (cut.front, cut.last, refl, cut.before));
-        right = right_front job files first part.0 now cut.back p whole cut.run among;
+        right = right_front job history first part.0 now cut.back p legal cut.run among;
       }
 
-  whole_front : job.form ≡ Sorted → first ++ others ≡ in_form job.form (outputs_of job files) → StaysRight job files first
+  whole_front : job.form ≡ Sorted → first ++ others ≡ in_form job.form (given_out job.trace (run_nodes job) history) → StaysRight job history first
   whole_front is e =
-      let run = append-nil (history_of job files) in
+      let run = append-nil history in
       record {
-        front = history_of job files;
+        front = history;
         back = [];
         run = run;
         others = others;
         among = e;
-        reaches = subst (λ (form : Form). ReachesSo form job (history_of job files) [] (length first)) (sym is) refl;
-        right = right_front job files first others (history_of job files) [] p whole run e;
+        reaches = subst (λ (form : Form). ReachesSo form job history [] (length first)) (sym is) refl;
+        right = right_front job history first others history [] p legal run e;
       }
 
-  stays_in : (form : Form) → job.form ≡ form → first ++ others ≡ in_form job.form (outputs_of job files) → 0 < length first → StaysRight job files first
+  stays_in : (form : Form) → job.form ≡ form → first ++ others ≡ in_form job.form (given_out job.trace (run_nodes job) history) → 0 < length first → StaysRight job history first
   stays_in AsTheyCome is e some =
-      let same = e ∙ ap (λ (form : Form). in_form form (outputs_of job files)) is in
-      least_front is same (least job.trace (run_nodes job) [] (history_of job files) (length first) some (omega (arith, ap length same, length-append first others)))
+      let same = e ∙ ap (λ (form : Form). in_form form (given_out job.trace (run_nodes job) history)) is in
+      least_front is same (least job.trace (run_nodes job) [] history (length first) some (omega (arith, ap length same, length-append first others)))
   stays_in Sorted is e some = whole_front is e
   stays_in Summed is e some =
-      let none = ap length (e ∙ ap (λ (form : Form). in_form form (outputs_of job files)) is) in
+      let none = ap length (e ∙ ap (λ (form : Form). in_form form (given_out job.trace (run_nodes job) history)) is) in
       absurd (omega (arith, none, length-append first others, some))
 
-pub stays : (job : Job) (files : List (List ℕ)) (first others : List Element) → IsPlanned job → IsLegal (run_nodes job) (history_of job files) → first ++ others ≡ in_form job.form (outputs_of job files) → (first ≡ []) ⊎ StaysRight job files first
-stays job files [] others p whole e = inl refl
-stays job files (x ∷ first) others p whole e = inr (stays_in job files (x ∷ first) others p whole job.form refl e (omega arith))
+-- first outputs of a legal history stay right, in the order in which they are written
+pub stays : (job : Job) (history : List Entry) (first others : List Element) → IsPlanned job → IsLegal (run_nodes job) history → first ++ others ≡ in_form job.form (elements_out (outs_by job history)) → (first ≡ []) ⊎ StaysRight job history first
+stays job history [] others p legal e = inl refl
+stays job history (x ∷ first) others p legal e = inr (stays_in job history (x ∷ first) others p legal job.form refl e (omega arith))

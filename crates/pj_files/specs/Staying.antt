@@ -1,4 +1,4 @@
--- What was written of a run stays right, however its streams go on.
+-- What was written of a history stays right, however its streams go on.
 use Rattle.std.specs.Prelude.{◌≡◌, ◌<◌, ℕ, ◌⊎◌, ⊤, List, [], ◌∷◌, ◌++◌, map, length}
 use Rattle.pj_plan.specs.declared.node.PlanNode.{PlanNode}
 use Rattle.pj_plan.specs.Nodes.{streams_in}
@@ -15,7 +15,7 @@ use Rattle.pj_report.specs.declared.writer.Form.{Form}
 use Rattle.pj_report.specs.declared.writer.Form.TheVariants.{AsTheyCome, Sorted, Summed}
 use Rattle.pj_report.specs.Forms.{in_form}
 use Rattle.pj_run.specs.Jobs.{Job}
-use Rattle.pj_run.specs.Runs.{history_of, run_nodes}
+use Rattle.pj_run.specs.Runs.{run_nodes}
 
 -- the elements that a history brought to each of so many streams
 abbrev pub arrived_in : ℕ → List Entry → List (List Element)
@@ -27,7 +27,7 @@ gone_on [] more = []
 gone_on (f ∷ fs) [] = f ∷ gone_on fs []
 gone_on (f ∷ fs) (m ∷ ms) = (f ++ m) ∷ gone_on fs ms
 
--- the elements that a front of the plan's run brought to its streams, each going on with more
+-- the elements that a front of a history brought to the plan's streams, each going on with more
 abbrev pub streams_after : Job → List Entry → List (List Element) → List (List Element)
 streams_after job front more = gone_on (arrived_in (length (streams_in job.nodes)) front) more
 
@@ -57,12 +57,12 @@ ReachesSo AsTheyCome job front back count = IsShortest job front count
 ReachesSo Sorted job front back count = back ≡ []
 ReachesSo Summed job front back count = back ≡ []
 
--- These outputs are first ones, in the order of their form, of what a front of the run hands out; and however the
+-- These outputs are first ones, in the order of their form, of what a front of a history of the plan hands out; and however the
 -- streams lawfully go on from there, their rows are among those of the answer, as bags
-pub record StaysRight (job : Job) (files : List (List ℕ)) (outputs : List Element) : Type 0 where
+pub record StaysRight (job : Job) (history : List Entry) (outputs : List Element) : Type 0 where
   pub front : List Entry
   pub back : List Entry
-  pub run : front ++ back ≡ history_of job files
+  pub run : front ++ back ≡ history
   pub others : List Element
   pub among : outputs ++ others ≡ in_form job.form (elements_out (handed_out job.trace (run_nodes job) front))
   pub reaches : ReachesSo job.form job front back (length outputs)

@@ -1,7 +1,5 @@
-use Rattle.std.proofs.Common.{◌≡◌, List, ℕ, refl, sym, subst, false}
-use Rattle.std.specs.Prelude.{take}
+use Rattle.std.proofs.Common.{◌≡◌, refl, sym, subst, false}
 use Rattle.pj_io.specs.States.{FolderState}
-use Rattle.pj_feed.specs.Opened.{OpensFirst, StayOutside}
 use Rattle.pj_report.specs.declared.status.Status.{Status}
 use Rattle.pj_words.specs.declared.request.Request.{Request}
 use Rattle.pj_words.specs.declared.request.Request.TheVariants.{Run as RunRequest, Replay, Check as CheckRequest, Make as MakeRequest}
@@ -11,7 +9,8 @@ use Rattle.pj_alone.specs.Promises.{KeepsAll}
 use Rattle.pj_prepare.specs.Scripts.{IsPrepared}
 use Rattle.pj_alone.proofs.MadeLaws.{keeps_make, ready_make}
 use Rattle.pj_alone.proofs.PlanPromises.{keeps_refused}
-use Rattle.pj_alone.proofs.VerdictLaws.{keeps_verdict, ready_check, ready_run}
+use Rattle.pj_alone.proofs.RunPromises.{prepared_so}
+use Rattle.pj_alone.proofs.VerdictLaws.{keeps_verdict, ready_check}
 use Rattle.pj_alone.proofs.alone.answer.Given.{Over}
 use Rattle.pj_alone.proofs.alone.answer.Goals.{In-Ok-Run, After-write_made, After-write_verdict}
 use Rattle.pj_alone.proofs.alone.answer.Goals as goal
@@ -30,16 +29,7 @@ prepared : (g : Over) (c : In-Ok-Run g) → IsPrepared c.in-Ok-Run.ready (call_f
 prepared g c =
     let call = call_for c.args.request.now (g.F.Folder.state c.args.folder.now) in
     let e = c.in-Ok-Run.ensures in
-    let ready = ready_run call _ c.in-Ok-Run.ready e.ready c.in-Ok-Run.field-0-is in
-    record {
-      run = ready;
-      told = e.told;
-      contents = e.contents;
-      last = e.last;
-      opened = subst (λ (ns : List (List ℕ)). OpensFirst 1 ns call.folder (g.F.Folder.state c.prepare.new.folder)) ready.form.named e.was_opened;
-      others = subst (λ (ns : List (List ℕ)). StayOutside (take 1 ns) call.folder (g.F.Folder.state c.prepare.new.folder)) ready.form.named c.prepare.ensures.others;
-      later = e.later;
-    }
+    prepared_so call _ c.in-Ok-Run.ready (g.F.Folder.state c.prepare.new.folder) e.ready c.in-Ok-Run.field-0-is e.told e.contents e.last e.was_opened c.prepare.ensures.others e.later
 
 pub write_run-requires : goal.write_run-requires
 write_run-requires g c = (g.F.Folder.state c.args.folder.now, prepared g (goal.at.write_run-requires g c).In-Ok-Run)

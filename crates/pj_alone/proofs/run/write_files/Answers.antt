@@ -10,14 +10,14 @@ use Rattle.pj_run.specs.Jobs.{Job}
 use Rattle.pj_run.specs.PlanNames.{HasShortNames}
 use Rattle.pj_run.specs.RunEnds.{FilesCause, FilesOpened, FilesWrite, StoppedFiles}
 use Rattle.pj_run.specs.Runs.{job_by, IsEnabled, StaysInLimit}
-use Rattle.pj_run.specs.Stops.{files_status, stop_line}
+use Rattle.pj_run.specs.Stops.{files_status, stop_line, IsOfFew}
 use Rattle.pj_run.specs.Whole.{WritesWhole}
 use Rattle.pj_run.specs.declared.stops.FilesStop.{FilesStop}
 use Rattle.std.specs.Prelude.{IfErr, OnOk}
 use Rattle.pj_prepare.specs.Calls.{first_file}
 use Rattle.pj_alone.specs.Endings.{ending_of, stop_name}
 use Rattle.pj_alone.specs.Promises.{KeepsAll}
-use Rattle.pj_alone.proofs.CallLaws.{few_names, first_is, of_few}
+use Rattle.pj_alone.proofs.CallLaws.{cause_by, few_names, first_is, goes_over, of_few}
 use Rattle.pj_alone.proofs.RunPromises.{keeps_done, keeps_stopped}
 use Rattle.pj_alone.proofs.StaysLaws.{stop_name_by, stop_name_short}
 use Rattle.pj_alone.proofs.run.write_files.Given.{Over}
@@ -63,17 +63,24 @@ cause g c stop is =
 few : (g : Over) (c : After-core g) → length c.args.files.now ≤ 128
 few g c = few_names c.args.ready.core.plan.nodes c.args.files.now c.requires.1.run.fresh.sound (ap length c.requires.2 ∙ c.requires.1.run.count)
 
+few_stop : (g : Over) (c : After-core g) (stop : FilesStop) → c.run_files-core.result.ended ≡ Err stop → IsOfFew stop
+few_stop g c stop is =
+    let job : Job = job_by c.args.script.now c.args.ready.writing c.args.ready.core in
+    let mid = g.F.Folder.state c.args.folder.now in
+    let new = g.F.Folder.state c.run_files-core.new.folder in
+    let first = g.K.Sink.state c.args.out.now in
+    let now = g.K.Sink.state c.run_files-core.new.out in
+    of_few (goes_over job c.args.files.now mid) stop c.args.files.now mid new first now (few g c) (cause_by stop job c.args.files.now mid new first now (cause g c stop is))
+
 pub status-status-requires-clause-few : goal.status-status-requires-clause-few
 status-status-requires-clause-few g c =
     let a = (goal.at.status-status-requires-clause-few g c).After-core in
-    of_few c.in-Err.stop (job_by c.args.script.now c.args.ready.writing c.args.ready.core) c.args.files.now (g.F.Folder.state c.args.folder.now) (g.F.Folder.state c.run_files-core.new.folder) (g.K.Sink.state c.args.out.now) (g.K.Sink.state c.run_files-core.new.out)
-    (few g a) (cause g a c.in-Err.stop c.in-Err.is)
+    few_stop g a c.in-Err.stop c.in-Err.is
 
 pub write_stop-requires-clause-few : goal.write_stop-requires-clause-few
 write_stop-requires-clause-few g c =
     let a = (goal.at.write_stop-requires-clause-few g c).After-core in
-    of_few c.in-Err.stop (job_by c.args.script.now c.args.ready.writing c.args.ready.core) c.args.files.now (g.F.Folder.state c.args.folder.now) (g.F.Folder.state c.run_files-core.new.folder) (g.K.Sink.state c.args.out.now) (g.K.Sink.state c.run_files-core.new.out)
-    (few g a) (cause g a c.in-Err.stop c.in-Err.is)
+    few_stop g a c.in-Err.stop c.in-Err.is
 
 pub write_stop-requires-clause-short : goal.write_stop-requires-clause-short
 write_stop-requires-clause-short g c =
