@@ -1,5 +1,5 @@
 -- What the words of a command line ask for, over a folder.
-use Rattle.std.specs.Prelude.{◌≡◌, List, map, Option, Some}
+use Rattle.std.specs.Prelude.{ℕ, ◌≡◌, List, map, Option, Some, None}
 use Rattle.std.specs.String.{string_bytes}
 use Rattle.std.specs.declared.string.String.{String}
 use Rattle.std.specs.declared.alloc.Global.{Global}
@@ -7,6 +7,7 @@ use Rattle.pj_io.specs.States.{FolderState}
 use Rattle.pj_words.specs.declared.request.Request.{Request}
 use Rattle.pj_words.specs.Request.{request_in}
 use Rattle.pj_prepare.specs.Calls.{Call, call_by, wanted}
+use Rattle.pj_together.specs.Requests.{workers_of}
 
 -- what the words ask for
 abbrev pub asked_in : List (String Global) → Option Request
@@ -18,3 +19,11 @@ call_of words folder = call_by (wanted (asked_in words)) folder
 -- the words ask for something
 abbrev pub AsksSomething : List (String Global) → Type 0
 AsksSomething words = (request : Request) × (asked_in words ≡ Some request)
+
+-- how many workers they ask for: none where all is done on one thread
+abbrev pub workers_by : Option Request → ℕ
+workers_by None = 0
+workers_by (Some request) = workers_of request
+
+abbrev pub workers_in : List (String Global) → ℕ
+workers_in words = workers_by (asked_in words)

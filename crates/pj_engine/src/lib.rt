@@ -6,4 +6,5 @@ mod top;
 pub use pj_alone::{check_text, run_alone};
 pub use pj_report::{LimitOf, Status};
 pub use pj_safety::PlanRisk;
+pub use pj_workers::{Gate, OpenGate, Role};
 pub use top::run_words;

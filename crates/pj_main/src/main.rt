@@ -1,7 +1,7 @@
 //! Reads a plan and its files, and writes the results to standard output.
 #![tactic(auto)]
 
-use pj_engine::run_words;
+use pj_engine::{OpenGate, run_words};
 use pj_io::{DiskFolder, StdSink};
 use std::env;
 use std::io::ErrorKind;
@@ -23,7 +23,7 @@ fn main(rt: HostRuntime) -> ExitCode {
     let Ok(mut out) = StdSink::new(rt.alloc(), &rt) else {
         return ExitCode::from(NO_MEMORY);
     };
-    let status = run_words(&rt, words.as_slice(), &mut folder, &mut out);
+    let status = run_words(&rt, words.as_slice(), &mut folder, &mut out, &OpenGate);
     ExitCode::from(status.number())
 }
 

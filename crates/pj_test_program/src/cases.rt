@@ -1,8 +1,10 @@
 // A case: a command over files, and what it writes.
-use pj_engine::{Status, run_words};
+use pj_engine::{Gate, OpenGate, Status, run_words};
 use pj_io::{MemFolder, MemSink};
 use pj_value::NoMemory;
 use std::alloc::Global;
+use std::sync::Wait;
+use std::thread::Threads;
 
 // The calls that fail: an opening, a read of the file at a place, a write, or both of these, each counted from 0.
 #[derive(Clone, Copy)]
@@ -116,23 +118,38 @@ pub(crate) fn folder_of(alloc: Global, case: &Case<'_>) -> Result<MemFolder, NoM
 }
 
 // How these words end over the files of the case, and the sink, which takes whole pieces.
-fn run(rt: &HostRuntime, words: &[String], case: &Case<'_>) -> Result<(Status, MemSink), NoMemory> {
+fn run<G: Gate>(
+    rt: &(impl AllocGlobal + Threads + Wait + Sync),
+    words: &[String],
+    case: &Case<'_>,
+    gate: &G,
+) -> Result<(Status, MemSink), NoMemory> {
     let mut folder = folder_of(rt.alloc(), case)?;
     let mut out = MemSink::new(rt.alloc(), 100_000, &[calls_of(case.fault).write])?;
     out.room(200_000)?;
-    let status = run_words(rt, words, &mut folder, &mut out);
+    let status = run_words(rt, words, &mut folder, &mut out, gate);
     Ok((status, out))
+}
+
+// How the case ends whose workers pass this gate, and the sink.
+pub(crate) fn run_at<G: Gate>(
+    rt: &(impl AllocGlobal + Threads + Wait + Sync),
+    case: &Case<'_>,
+    gate: &G,
+) -> Result<(Status, MemSink), NoMemory> {
+    let words = words_of(rt.alloc(), case.command)?;
+    run(rt, words.as_slice(), case, gate)
 }
 
 // How they end, where they write this and then this.
 pub(crate) fn ends_by(
-    rt: &HostRuntime,
+    rt: &(impl AllocGlobal + Threads + Wait + Sync),
     words: &[String],
     case: &Case<'_>,
     want: &[u8],
     more: &[u8],
 ) -> Result<Option<Status>, NoMemory> {
-    let (status, out) = run(rt, words, case)?;
+    let (status, out) = run(rt, words, case, &OpenGate)?;
     if is(out.bytes(), want, more) {
         return Ok(Some(status));
     }
@@ -147,7 +164,7 @@ fn is(bytes: &[u8], want: &[u8], more: &[u8]) -> bool {
 
 // How the case ends, where it writes this and then this; `None` where it writes something else.
 pub(crate) fn ends(
-    rt: &HostRuntime,
+    rt: &(impl AllocGlobal + Threads + Wait + Sync),
     case: &Case<'_>,
     want: &[u8],
     more: &[u8],
@@ -158,7 +175,7 @@ pub(crate) fn ends(
 
 // The number of how it ends, where it writes this and then this.
 pub(crate) fn ends_with(
-    rt: &HostRuntime,
+    rt: &(impl AllocGlobal + Threads + Wait + Sync),
     case: &Case<'_>,
     want: &[u8],
     more: &[u8],
@@ -170,9 +187,11 @@ pub(crate) fn ends_with(
 }
 
 // The number of how it ends, whatever it writes.
-pub(crate) fn number_of(rt: &HostRuntime, case: &Case<'_>) -> Result<u8, NoMemory> {
-    let words = words_of(rt.alloc(), case.command)?;
-    let (status, _out) = run(rt, words.as_slice(), case)?;
+pub(crate) fn number_of(
+    rt: &(impl AllocGlobal + Threads + Wait + Sync),
+    case: &Case<'_>,
+) -> Result<u8, NoMemory> {
+    let (status, _out) = run_at(rt, case, &OpenGate)?;
     Ok(status.number())
 }
 
@@ -184,7 +203,7 @@ pub(crate) fn front(bytes: &[u8], count: usize) -> &[u8] {
 // The number of the first of the writes behind whose failure the case does not end with this number, or leaves not as many bytes of
 // this as stand at that place.
 pub(crate) fn wrong_write(
-    rt: &HostRuntime,
+    rt: &(impl AllocGlobal + Threads + Wait + Sync),
     case: &Case<'_>,
     number: u8,
     want: &[u8],

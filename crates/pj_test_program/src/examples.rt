@@ -104,18 +104,18 @@ pub(crate) const UNSAFE_OUT: &[u8] =
 
 #[rattlefmt::skip]
 pub(crate) const EXAMPLES: [(&str, &str, [&[u8]; 5], u8, &[u8]); 14] = [
-    ("auction", "run plan a b", [AUCTION_PLAN, b"", AUCTION_ITEMS, AUCTION_BIDS, b""], 0, AUCTION_OUT),
+    ("auction", "run --workers=0 plan a b", [AUCTION_PLAN, b"", AUCTION_ITEMS, AUCTION_BIDS, b""], 0, AUCTION_OUT),
     ("auction", "check plan", [AUCTION_PLAN, b"", b"", b"", b""], 0, AUCTION_SAFE_OUT),
-    ("orders", "run plan a b c", [ORDERS_PLAN, b"", ORDERS_ORDERS, ORDERS_PAYS, ORDERS_SHIPS], 0, ORDERS_OUT),
-    ("orders", "run plan a b c --trace", [ORDERS_PLAN, b"", ORDERS_ORDERS, ORDERS_PAYS, ORDERS_SHIPS], 0, ORDERS_TRACE_OUT),
+    ("orders", "run --workers=0 plan a b c", [ORDERS_PLAN, b"", ORDERS_ORDERS, ORDERS_PAYS, ORDERS_SHIPS], 0, ORDERS_OUT),
+    ("orders", "run --workers=0 plan a b c --trace", [ORDERS_PLAN, b"", ORDERS_ORDERS, ORDERS_PAYS, ORDERS_SHIPS], 0, ORDERS_TRACE_OUT),
     ("replay", "check plan", [REPLAY_UNSAFE, b"", b"", b"", b""], 2, REPLAY_UNSAFE_OUT),
     ("replay", "check plan", [REPLAY_PLAN, b"", b"", b"", b""], 0, REPLAY_PLAN_OUT),
     ("replay", "replay plan script a b --trace", [REPLAY_PLAN, REPLAY_EARLY, REPLAY_PARCELS, REPLAY_SCANS, b""], 0, REPLAY_EARLY_OUT),
     ("replay", "replay plan script a b --trace", [REPLAY_PLAN, REPLAY_LATE, REPLAY_PARCELS, REPLAY_SCANS, b""], 0, REPLAY_LATE_OUT),
-    ("sensors", "run plan a b c", [SENSORS_PLAN, b"", SENSORS_DOOR, SENSORS_HALL, SENSORS_PRESS], 0, SENSORS_OUT),
+    ("sensors", "run --workers=0 plan a b c", [SENSORS_PLAN, b"", SENSORS_DOOR, SENSORS_HALL, SENSORS_PRESS], 0, SENSORS_OUT),
     ("sensors", "run plan a b c --sorted", [SENSORS_PLAN, b"", SENSORS_DOOR, SENSORS_HALL, SENSORS_PRESS], 0, SENSORS_SORTED_OUT),
-    ("unsafe", "run plan a b", [UNSAFE_PLAN, b"", UNSAFE_PAGES, UNSAFE_CLICKS, b""], 2, UNSAFE_REFUSED_OUT),
+    ("unsafe", "run --workers=0 plan a b", [UNSAFE_PLAN, b"", UNSAFE_PAGES, UNSAFE_CLICKS, b""], 2, UNSAFE_REFUSED_OUT),
     ("unsafe", "check plan", [UNSAFE_PLAN, b"", b"", b"", b""], 2, UNSAFE_UNSAFE_OUT),
     ("unsafe", "check plan", [UNSAFE_MENDED, b"", b"", b"", b""], 0, UNSAFE_SAFE_OUT),
-    ("unsafe", "run plan a b --trace", [UNSAFE_MENDED, b"", UNSAFE_PAGES, UNSAFE_CLICKS, b""], 0, UNSAFE_OUT),
+    ("unsafe", "run --workers=0 plan a b --trace", [UNSAFE_MENDED, b"", UNSAFE_PAGES, UNSAFE_CLICKS, b""], 0, UNSAFE_OUT),
 ];

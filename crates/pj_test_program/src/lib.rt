@@ -8,6 +8,8 @@ mod checks;
 #[cfg(test)]
 mod examples;
 #[cfg(test)]
+mod gates;
+#[cfg(test)]
 mod live;
 #[cfg(test)]
 mod made;
@@ -19,3 +21,5 @@ mod options;
 mod replays;
 #[cfg(test)]
 mod runs;
+#[cfg(test)]
+mod workers;

@@ -4,24 +4,30 @@ ghost use Rattle.pj_io.specs.MemoryFolders.{folder_of};
 
 use crate::cases::{Case, case_of, folder_of, words_of};
 use crate::runs::{ODD, PLAN, over};
-use pj_engine::{Status, run_words};
+use pj_engine::{OpenGate, Status, run_words};
 use pj_io::{Failed, Folder, MemFolder, MemSource, OpenStop, Sink, Source};
 use pj_value::NoMemory;
 use std::alloc::Global;
-use std::cell::Cell;
+use std::sync::Wait;
+use std::sync::atomic::{AtomicU64, Ordering};
+use std::thread::Threads;
 
 // What the reads, writes and flushes of a run note: the bytes that are held back, how many flushes and reads there were, and at
 // how many of the reads bytes were held back.
 #[derive(Drop)]
 struct Log {
-    held: Cell<u64>,
-    flushes: Cell<u64>,
-    reads: Cell<u64>,
-    late: Cell<u64>,
+    held: AtomicU64,
+    flushes: AtomicU64,
+    reads: AtomicU64,
+    late: AtomicU64,
 }
 
-fn count(cell: &Cell<u64>, more: u64) {
-    cell.set(cell.get().saturating_add(more));
+fn count(number: &AtomicU64, more: u64) {
+    number.fetch_add(more, Ordering::SeqCst);
+}
+
+fn counted(number: &AtomicU64) -> u64 {
+    number.load(Ordering::SeqCst)
 }
 
 // A file that notes its reads.
@@ -36,7 +42,7 @@ impl<'a> Source for NotedFile<'a> {
 
     fn read(&mut self, buf: &mut [u8]) -> Result<usize, Failed> {
         count(&self.log.reads, 1);
-        if self.log.held.get() > 0 {
+        if counted(&self.log.held) > 0 {
             count(&self.log.late, 1);
         }
         self.inner.read(buf)
@@ -87,13 +93,13 @@ impl<'a> Sink for NotedSink<'a> {
     }
 
     fn flush(&mut self) -> Result<(), Failed> {
-        let number = self.log.flushes.get();
+        let number = counted(&self.log.flushes);
         count(&self.log.flushes, 1);
         if number >= self.fails {
             self.faults = self.faults.saturating_add(1);
             return Err(Failed);
         }
-        self.log.held.set(0);
+        self.log.held.store(0, Ordering::SeqCst);
         Ok(())
     }
 }
@@ -107,21 +113,31 @@ const PAIR: &[u8] =
 // How the case ends, where the flush of this number and those behind it fail, and how many flushes, reads, and reads with something
 // held back there were.
 fn noted(
-    rt: &HostRuntime,
+    rt: &(impl AllocGlobal + Threads + Wait + Sync),
     case: &Case<'_>,
     fails: u64,
 ) -> Result<(Status, u64, u64, u64), NoMemory> {
     let log = Log {
-        held: Cell::new(0),
-        flushes: Cell::new(0),
-        reads: Cell::new(0),
-        late: Cell::new(0),
+        held: AtomicU64::new(0),
+        flushes: AtomicU64::new(0),
+        reads: AtomicU64::new(0),
+        late: AtomicU64::new(0),
     };
     let status = ends(rt, case, fails, &log)?;
-    Ok((status, log.flushes.get(), log.reads.get(), log.late.get()))
+    Ok((
+        status,
+        counted(&log.flushes),
+        counted(&log.reads),
+        counted(&log.late),
+    ))
 }
 
-fn ends(rt: &HostRuntime, case: &Case<'_>, fails: u64, log: &Log) -> Result<Status, NoMemory> {
+fn ends(
+    rt: &(impl AllocGlobal + Threads + Wait + Sync),
+    case: &Case<'_>,
+    fails: u64,
+    log: &Log,
+) -> Result<Status, NoMemory> {
     let words = words_of(rt.alloc(), case.command)?;
     let inner = folder_of(rt.alloc(), case)?;
     let mut folder = NotedFolder { inner, log };
@@ -130,7 +146,7 @@ fn ends(rt: &HostRuntime, case: &Case<'_>, fails: u64, log: &Log) -> Result<Stat
         fails,
         faults: 0,
     };
-    Ok(run_words(rt, words.as_slice(), &mut folder, &mut out))
+    Ok(run_words(rt, words.as_slice(), &mut folder, &mut out, &OpenGate))
 }
 
 // A flush comes before the read, not for each line, and before the report's end. The plan's file has two reads.
@@ -156,7 +172,7 @@ fn each_flush_fails_in_turn(rt: HostRuntime) {
 #[test]
 fn a_status_line_is_handed_on_too(rt: HostRuntime) {
     for (command, status, reads) in [
-        ("run plan a", Status::WriteFault, 2),
+        ("run --workers=0 plan a", Status::WriteFault, 2),
         ("run", Status::Usage, 0),
     ] {
         let case = Case {
@@ -177,7 +193,7 @@ fn streams_wait_for_each_other_with_nothing_held_back(rt: HostRuntime) {
     let case = Case {
         cuts: [65_536, 65_536, 4, 6, 65_536],
         ..case_of(
-            "run plan a b",
+            "run --workers=0 plan a b",
             [PAIR, b"", b"t 1\nt 2\nt 1\n", b"t 1\nx\nt 2\nt 1\n", b""],
         )
     };

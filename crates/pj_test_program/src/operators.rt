@@ -3,13 +3,15 @@ use crate::cases::{case_of, ends};
 use crate::examples::ORDERS_PLAN;
 use pj_engine::Status;
 use pj_value::NoMemory;
+use std::sync::Wait;
+use std::thread::Threads;
 
 const DONE: Option<Status> = Some(Status::Done);
 
 // Whether the run of a plan over these files ends well and writes this, and the line of a check behind it where the second command
 // asks for one.
 fn runs_and_checks<'a>(
-    rt: &HostRuntime,
+    rt: &(impl AllocGlobal + Threads + Wait + Sync),
     commands: [&'a str; 2],
     plan: &'a [u8],
     files: [&'a [u8]; 3],
@@ -28,7 +30,7 @@ fn selects_projects_and_unions_run(rt: HostRuntime) {
     for (name, commands, plan, files, want, check) in [
         (
             "a select and a project",
-            ["run plan a", "run --check plan a"],
+            ["run --workers=0 plan a", "run --workers=0 --check plan a"],
             b"plan 1\nstream s k:int v:text\nselect f s where k [1..9] k [3..]\nproject g f v\noutput g\n".as_slice(),
             [
                 b"t 5 \"a\"\nt 12 \"b\"\np * \"a\"\np 5 *\nt 6 \"a\"\n".as_slice(),
@@ -40,7 +42,10 @@ fn selects_projects_and_unions_run(rt: HostRuntime) {
         ),
         (
             "a union",
-            ["run plan a b", "run plan a b --check"],
+            [
+                "run --workers=0 plan a b",
+                "run --workers=0 plan a b --check",
+            ],
             b"plan 1\nstream l v:int\nstream r w:int\nunion u l r\noutput u\n",
             [b"t 5\np [1..9]\n", b"t 5\np 5\n", b""],
             b"t 5\nt 5\np 5\np [1..9]\np *\np *\n# stream l tuples 1 punctuations 1 rejected 0\n# stream r tuples 1 punctuations 1 rejected 0\n# results 2 punctuations 4\n",
@@ -70,7 +75,7 @@ fn groups_run(rt: HostRuntime) {
             b"t 2 \"X\" \"x\" -9223372036854775808\np 2 * * *\nt 1 \"\" \"ba\" 9223372036854775807\np * * * *\n# stream s tuples 5 punctuations 1 rejected 0\n# results 2 punctuations 2\n",
         ),
     ] {
-        let commands = ["run plan a", "run plan --check a"];
+        let commands = ["run --workers=0 plan a", "run --workers=0 plan --check a"];
         let files = [file, b"", b""];
         let check = b"# check 2\n";
         let ended = runs_and_checks(&rt, commands, plan, files, want, check);
@@ -99,7 +104,10 @@ fn trees_of_operators_run(rt: HostRuntime) {
             b"t 1 \"ann\" 100\np 1 * *\np * * *\np * * *\np 2 * *\np * * *\n# stream orders tuples 2 punctuations 2 rejected 0\n# stream pays tuples 3 punctuations 1 rejected 0\n# stream ships tuples 1 punctuations 1 rejected 0\n# results 1 punctuations 5\n# peak j 4\n",
         ),
     ] {
-        let commands = ["run plan a b c", "run plan a b c --check"];
+        let commands = [
+            "run --workers=0 plan a b c",
+            "run --workers=0 plan a b c --check",
+        ];
         let check = b"# check 1\n";
         let ended = runs_and_checks(&rt, commands, plan, files, want, check);
         assert_eq!(rt; ended, Ok(true), "at {name}");

@@ -19,9 +19,13 @@ const TWO_RESULTS: &[u8] =
 fn a_limit_stops_the_run_at_its_node(rt: HostRuntime) {
     for (command, number, want) in [
         ("run --workers 0 --limit 3 plan a b", 6, STOPPED_AT_JOIN),
-        ("run --limit=003 plan a b", 6, STOPPED_AT_JOIN),
-        ("run plan --limit 6 a b", 0, TWO_RESULTS),
-        ("run plan a b --limit 1099511627776", 0, TWO_RESULTS),
+        ("run --workers=0 --limit=003 plan a b", 6, STOPPED_AT_JOIN),
+        ("run --workers=0 plan --limit 6 a b", 0, TWO_RESULTS),
+        (
+            "run --workers=0 plan a b --limit 1099511627776",
+            0,
+            TWO_RESULTS,
+        ),
     ] {
         let ended = ends_with(&rt, &auction(command, TWO_ITEMS, TWO_BIDS), want, b"");
         assert_eq!(rt; ended, Ok(Some(number)), "at {command}");
@@ -39,7 +43,7 @@ const TRACED: &[u8] =
 #[test]
 fn rows_that_sweeps_remove_are_noted_in_a_trace(rt: HostRuntime) {
     for command in [
-        "run --trace plan a b",
+        "run --workers=0 --trace plan a b",
         "run plan a b --workers=0 --trace --limit 9",
     ] {
         let ended = ends(&rt, &auction(command, ITEMS, BIDS), TRACED, b"");
@@ -57,8 +61,11 @@ const TRACED_AND_CHECKED: &[u8] =
 #[test]
 fn a_check_goes_over_accepted_rows(rt: HostRuntime) {
     for (command, want) in [
-        ("run --check plan a b", CHECKED),
-        ("run --check plan a b --trace", TRACED_AND_CHECKED),
+        ("run --workers=0 --check plan a b", CHECKED),
+        (
+            "run --workers=0 --check plan a b --trace",
+            TRACED_AND_CHECKED,
+        ),
         (
             "run --workers 0 --trace plan a b --check",
             TRACED_AND_CHECKED,
@@ -92,7 +99,7 @@ fn results_are_sorted_and_checked_where_it_is_asked_for(rt: HostRuntime) {
             b"# check 1\n",
         ),
         (
-            "run plan a b --check",
+            "run --workers=0 plan a b --check",
             WAITING_RUN,
             b"# peak j 2\n# check 1\n",
         ),
@@ -129,13 +136,13 @@ const SOME_RESULTS: &[u8] = b"t 10 \"eve\" 10 70\n";
 #[test]
 fn a_sorted_run_that_stops_writes_nothing_before_its_end(rt: HostRuntime) {
     let limited = b"# stopped limit node j\n".as_slice();
-    let command = "run --sorted --limit 3 plan a b";
+    let command = "run --workers=0 --sorted --limit 3 plan a b";
     let ended = ends_with(&rt, &auction(command, TWO_ITEMS, TWO_BIDS), limited, b"");
     assert_eq!(rt; ended, Ok(Some(6)));
     let unread = b"# stopped read fault operand 2\n".as_slice();
     for (command, cuts, fault, number, lines, left, stop) in [
         (
-            "run --sorted --check plan a b",
+            "run --workers=0 --sorted --check plan a b",
             [100, 100, 9, 9, 100],
             Fault::Write(0),
             4,
@@ -144,7 +151,7 @@ fn a_sorted_run_that_stops_writes_nothing_before_its_end(rt: HostRuntime) {
             b"".as_slice(),
         ),
         (
-            "run --sorted --check plan a b",
+            "run --workers=0 --sorted --check plan a b",
             [100, 100, 9, 9, 100],
             Fault::Write(2),
             4,
@@ -153,7 +160,7 @@ fn a_sorted_run_that_stops_writes_nothing_before_its_end(rt: HostRuntime) {
             b"",
         ),
         (
-            "run --sorted --check plan a b",
+            "run --workers=0 --sorted --check plan a b",
             [100, 100, 9, 9, 100],
             Fault::Write(9),
             4,
@@ -162,7 +169,7 @@ fn a_sorted_run_that_stops_writes_nothing_before_its_end(rt: HostRuntime) {
             b"",
         ),
         (
-            "run --sorted plan a b",
+            "run --workers=0 --sorted plan a b",
             [100, 100, 12, 100, 100],
             Fault::Read(A, 1),
             3,
@@ -171,7 +178,7 @@ fn a_sorted_run_that_stops_writes_nothing_before_its_end(rt: HostRuntime) {
             unread,
         ),
         (
-            "run --check plan a b",
+            "run --workers=0 --check plan a b",
             [100, 100, 12, 100, 100],
             Fault::Read(A, 1),
             3,
@@ -208,7 +215,7 @@ fn a_stop_stands_before_a_write_that_fails_behind_it(rt: HostRuntime) {
         let case = Case {
             fault,
             ..case_of(
-                "run plan script a b c --limit 5",
+                "run --workers=0 plan script a b c --limit 5",
                 [
                     TOWER,
                     b"t 7\nt 7\n",
@@ -292,7 +299,7 @@ fn other_words_are_no_run(rt: HostRuntime) {
         "run p f --limit 0x3",
         "run p f --limit 000000000000000000003",
         "run p f --limit 3 --limit 3",
-        "run p f --workers 1",
+        "run p f --workers 17",
         "run p f --workers two",
         "run p f --workers",
         "run p f --trace g",

@@ -5,6 +5,8 @@ use crate::cases::{
 use crate::runs::{AUCTION, UNSAFE, padded};
 use pj_engine::{LimitOf, Status};
 use pj_value::NoMemory;
+use std::sync::Wait;
+use std::thread::Threads;
 
 // ---- what is written
 
@@ -121,7 +123,7 @@ fn a_script_without_steps_gives_the_run(rt: HostRuntime) {
         "drain\nsweep j items\nsweep j bids\n",
     ] {
         let files = [AUCTION, script.as_bytes(), ITEM, CLOSED_BIDS, b""];
-        for command in ["run plan a b", "replay plan script a b"] {
+        for command in ["run --workers=0 plan a b", "replay plan script a b"] {
             let ended = ends(&rt, &case_of(command, files), RUN_OUT, b"");
             assert_eq!(rt; ended, Ok(Some(Status::Done)), "at {command} of {script}");
         }
@@ -213,7 +215,7 @@ fn a_step_that_is_not_enabled_is_refused_behind_what_came(rt: HostRuntime) {
 
 // How a replay ends of whose script this is the first step, with line feeds behind it, so many bytes in all.
 fn padded_script_ends(
-    rt: &HostRuntime,
+    rt: &(impl AllocGlobal + Threads + Wait + Sync),
     step: &[u8],
     size: usize,
     want: &[u8],
@@ -313,7 +315,11 @@ const REFUSED_SCRIPT: &[u8] = b"arrive items\narrive bids\ntake\ntake\ngive j 1\
 const REFUSED_OUT: &[u8] = b"t 1 \"ann\" 1 50\n# refused script line 6\n";
 
 // How it ends where this write fails, counted from 0, and leaves so many bytes.
-fn refused_ends(rt: &HostRuntime, nth: u64, left: usize) -> Result<Option<Status>, NoMemory> {
+fn refused_ends(
+    rt: &(impl AllocGlobal + Threads + Wait + Sync),
+    nth: u64,
+    left: usize,
+) -> Result<Option<Status>, NoMemory> {
     let case = Case {
         fault: Fault::Write(nth),
         ..case_of(

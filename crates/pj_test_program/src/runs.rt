@@ -4,6 +4,8 @@ use crate::examples::EXAMPLES;
 use pj_engine::{LimitOf, Status};
 use pj_value::{List, NoMemory};
 use std::alloc::Global;
+use std::sync::Wait;
+use std::thread::Threads;
 
 pub(crate) const PLAN: &[u8] = b"plan 1\nstream s k:int v:text\noutput s\n";
 
@@ -68,12 +70,16 @@ const STOPPED: &[u8] = b"# stopped read fault operand 2\n";
 pub(crate) fn over<'a>(plan: &'a [u8], file: &'a [u8], cut: usize) -> Case<'a> {
     Case {
         cuts: [65_536, 65_536, cut, 65_536, 65_536],
-        ..case_of("run plan a", [plan, b"", file, b"", b""])
+        ..case_of("run --workers=0 plan a", [plan, b"", file, b"", b""])
     }
 }
 
 // The pieces by which the run on a file does not end well or writes something else.
-fn wrong_pieces(rt: &HostRuntime, file: &[u8], want: &[u8]) -> Result<Option<usize>, NoMemory> {
+fn wrong_pieces(
+    rt: &(impl AllocGlobal + Threads + Wait + Sync),
+    file: &[u8],
+    want: &[u8],
+) -> Result<Option<usize>, NoMemory> {
     for cut in [1, 7, 4096] {
         if ends(rt, &over(PLAN, file, cut), want, b"")? != Some(Status::Done) {
             return Ok(Some(cut));
@@ -127,7 +133,9 @@ fn long_lines(alloc: Global) -> Result<List<u8>, NoMemory> {
 const LONG_OUT: &[u8] =
     b"t \"z\"\np *\n# stream s tuples 2 punctuations 0 rejected 1\n# reject s line 2 too long\n# results 2 punctuations 1\n";
 
-fn long_lines_end(rt: &HostRuntime) -> Result<Option<Status>, NoMemory> {
+fn long_lines_end(
+    rt: &(impl AllocGlobal + Threads + Wait + Sync),
+) -> Result<Option<Status>, NoMemory> {
     let file = long_lines(rt.alloc())?;
     let case = over(
         b"plan 1\nstream s w:text\noutput s\n",
@@ -184,7 +192,12 @@ fn two_streams_are_joined(rt: HostRuntime) {
         ),
     ] {
         assert_eq!(rt;
-            ends(&rt, &auction("run plan a b", items, bids), want, b""),
+            ends(
+                &rt,
+                &auction("run --workers=0 plan a b", items, bids),
+                want,
+                b""
+            ),
             Ok(Some(Status::Done)),
             "at {name}"
         );
@@ -194,7 +207,7 @@ fn two_streams_are_joined(rt: HostRuntime) {
 #[test]
 fn each_write_of_a_join_fails_in_turn(rt: HostRuntime) {
     let case = auction(
-        "run plan a b",
+        "run --workers=0 plan a b",
         b"t 1 \"ann\"\np 1 *\n",
         b"t 1 50\np 1 *\nt 1 60\n",
     );
@@ -206,7 +219,7 @@ fn each_write_of_a_join_fails_in_turn(rt: HostRuntime) {
 #[test]
 fn three_streams_are_joined(rt: HostRuntime) {
     let case = case_of(
-        "run plan a b c",
+        "run --workers=0 plan a b c",
         [
             THREE,
             b"",
@@ -297,7 +310,11 @@ fn each_file_that_fails_is_named(rt: HostRuntime) {
         let case = Case {
             cuts: [65_536, 65_536, 65_536, 7, 65_536],
             fault,
-            ..auction("run plan a b", b"t 1 \"ann\"\n", b"t 1 50\np 9 *\n")
+            ..auction(
+                "run --workers=0 plan a b",
+                b"t 1 \"ann\"\n",
+                b"t 1 50\np 9 *\n",
+            )
         };
         assert_eq!(rt; ends(&rt, &case, want, b""), Ok(Some(status)));
     }
@@ -308,12 +325,20 @@ fn each_file_that_fails_is_named(rt: HostRuntime) {
 fn a_missing_file_is_named(rt: HostRuntime) {
     for (command, operand, want) in [
         (
-            "run plan a nosuch",
+            "run --workers=0 plan a nosuch",
             3,
             b"# stopped open fault operand 3\n".as_slice(),
         ),
-        ("run plan nosuch a", 2, b"# stopped open fault operand 2\n"),
-        ("run nosuch a a", 1, b"# stopped open fault operand 1\n"),
+        (
+            "run --workers=0 plan nosuch a",
+            2,
+            b"# stopped open fault operand 2\n",
+        ),
+        (
+            "run --workers=0 nosuch a a",
+            1,
+            b"# stopped open fault operand 1\n",
+        ),
     ] {
         let ended = ends(&rt, &auction(command, b"t 1 \"ann\"\n", b""), want, b"");
         let status = Status::OpenFault { operand };
@@ -430,7 +455,12 @@ fn a_plan_is_refused_with_its_first_fault(rt: HostRuntime) {
             b"# refused plan line 3 P14 unreadable line\n",
         ),
     ] {
-        let ended = ends_with(&rt, &asked("run plan nosuch a a", plan), line, b"");
+        let ended = ends_with(
+            &rt,
+            &asked("run --workers=0 plan nosuch a a", plan),
+            line,
+            b"",
+        );
         assert_eq!(rt; ended, Ok(Some(1)));
     }
 }
@@ -440,37 +470,37 @@ fn another_number_of_files_and_unsafe_plans_are_refused(rt: HostRuntime) {
     let select = b"plan 1\nstream s k:int\nselect t s where k 1\noutput t\n".as_slice();
     for (command, plan, number, line) in [
         (
-            "run plan nosuch",
+            "run --workers=0 plan nosuch",
             AUCTION,
             8,
             b"# refused files want 2 got 1\n".as_slice(),
         ),
         (
-            "run plan a a nosuch",
+            "run --workers=0 plan a a nosuch",
             AUCTION,
             8,
             b"# refused files want 2 got 3\n",
         ),
         (
-            "run plan a nosuch",
+            "run --workers=0 plan a nosuch",
             select,
             8,
             b"# refused files want 1 got 2\n",
         ),
         (
-            "run plan nosuch",
+            "run --workers=0 plan nosuch",
             UNSAFE,
             8,
             b"# refused files want 2 got 1\n",
         ),
         (
-            "run plan nosuch nosuch",
+            "run --workers=0 plan nosuch nosuch",
             UNSAFE,
             2,
             b"# unsafe join j input a: cannot reach b\n# reached: a\n",
         ),
         (
-            "run plan nosuch nosuch nosuch",
+            "run --workers=0 plan nosuch nosuch nosuch",
             b"plan 1\nstream a k:int\nstream b l:int\nstream c m:int\nscheme a +\nscheme b +\njoin i a b on k=l\njoin j c i on m=l\noutput j\n",
             2,
             b"# unsafe join j input i: cannot reach c\n# reached: i\n",
@@ -499,7 +529,7 @@ pub(crate) fn padded(alloc: Global, bytes: &[u8], size: usize) -> Result<List<u8
 
 // How a plan of so many bytes ends, over a file of so many line feeds.
 fn padded_plan_ends(
-    rt: &HostRuntime,
+    rt: &(impl AllocGlobal + Threads + Wait + Sync),
     size: usize,
     feeds: usize,
     want: &[u8],
@@ -567,10 +597,19 @@ const CHAIN_OUT: &[u8] =
     b"t \"ndp\"\nt \"ndp\"\nt \"ndp\"\nt \"ndp\"\np \"ndp\"\np \"ndp\"\np \"ndp\"\np \"ndp\"\nt \"z\"\nt \"z\"\nt \"z\"\nt \"z\"\np *\np *\np *\np *\n# stream naa tuples 3 punctuations 1 rejected 1\n# reject naa line 4 closed by line 3\n# stream nab tuples 3 punctuations 1 rejected 1\n# reject nab line 4 closed by line 3\n# stream nac tuples 3 punctuations 1 rejected 1\n# reject nac line 4 closed by line 3\n# stream nad tuples 3 punctuations 1 rejected 1\n# reject nad line 4 closed by line 3\n# results 8 punctuations 8\n";
 
 // How a plan of these nodes, and what else it says, ends.
-fn nodes_end(rt: &HostRuntime, last: &[u8], want: &[u8]) -> Result<Option<u8>, NoMemory> {
+fn nodes_end(
+    rt: &(impl AllocGlobal + Threads + Wait + Sync),
+    last: &[u8],
+    want: &[u8],
+) -> Result<Option<u8>, NoMemory> {
     let plan = plan_of(rt.alloc(), last)?;
     let files = [plan.as_slice(), b"", CHAIN, CHAIN, CHAIN];
-    ends_with(rt, &case_of("run plan a b c a", files), want, b"")
+    ends_with(
+        rt,
+        &case_of("run --workers=0 plan a b c a", files),
+        want,
+        b"",
+    )
 }
 
 #[test]
