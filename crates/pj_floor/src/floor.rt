@@ -18,15 +18,21 @@ const FREE: u64 = 0;
 // A feeder hands the floor on after so many rounds.
 const TURNS: u64 = 512;
 
+// A sweeper comes after so many rounds since it came last; where no feeder is here, after any.
+const SWEEPS: u64 = 512;
+
 // A worker looks so often whether the floor is its own before it rests.
 const LOOKS: u32 = 200;
 
-// The longest rests, in microseconds: while somebody has the floor, while nobody has it, and once no stream is fed any more.
+// The longest rests, in microseconds: while somebody has the floor, while nobody has it, once no stream is fed any more, and
+// until all feeders have begun.
 const REST: u64 = 20_000;
 
 const FREE_REST: u64 = 100_000;
 
 const LAST_REST: u64 = 1_000;
+
+const BEGIN_REST: u64 = 20_000;
 
 /// A floor that feeders, probers and sweepers share: who has it makes rounds, and the others rest. The writer rests on a bell of
 /// its own. No contract speaks of who comes when.
@@ -43,10 +49,9 @@ pub struct Floor {
     pub(crate) drains: Drains,
     // How often the writer's bell was rung when it rested last.
     pub(crate) heard: AtomicU64,
-    // How many feeders have ended.
+    // How many feeders have begun, and how many have ended.
+    begun: AtomicU64,
     fed: AtomicU64,
-    // The place of the feeder that handed the floor on last.
-    last: AtomicU64,
     feeders: usize,
     probers: usize,
     sweepers: usize,
@@ -64,8 +69,8 @@ impl Floor {
             writer: Bell::new(),
             drains: Drains::new(),
             heard: AtomicU64::new(0),
+            begun: AtomicU64::new(0),
             fed: AtomicU64::new(0),
-            last: AtomicU64::new(0),
             feeders: feeders.min(64) as usize,
             probers: probers.min(64) as usize,
             sweepers: sweepers.min(64) as usize,
@@ -105,18 +110,32 @@ impl Floor {
         None
     }
 
-    // The first sweeper from this place on that is here and has not swept since something was fed or probed.
-    fn first_due(&self, from: usize) -> Option<usize> {
+    // Of the feeders that are here the one that made the fewest rounds, the first where several did.
+    fn hindmost(&self) -> Option<usize> {
+        let mut found = None;
+        let mut fewest = u64::MAX;
+        for place in 0..self.feeders {
+            if let Some(guest) = self.guests.get(place) {
+                let made = guest.made();
+                if guest.is_here() && made < fewest {
+                    fewest = made;
+                    found = Some(place);
+                }
+            }
+        }
+        found
+    }
+
+    // The first sweeper from this place on that is here and came last so many rounds ago.
+    fn first_due(&self, from: usize, after: u64) -> Option<usize> {
         let rounds = self.rounds();
         let last = self
             .feeders
             .saturating_add(self.probers)
             .saturating_add(self.sweepers);
         for place in from..last {
-            if self
-                .guests
-                .get(place)
-                .is_some_and(|guest| guest.is_here() && guest.until() < rounds)
+            if self.guests.get(place).is_some_and(|guest| guest.is_here()
+                && guest.until().saturating_add(after) <= rounds)
             {
                 return Some(place);
             }
@@ -126,22 +145,18 @@ impl Floor {
 
     // ---- who comes next
 
-    // Who comes behind the worker at this place: behind a feeder a prober; behind that the next feeder; behind the last one the
-    // sweepers; and then the first feeder again.
+    // Who comes behind the worker at this place: behind a feeder a prober, where something is pending; then the sweepers that
+    // have not come for long; and then the feeder that is hindmost.
     fn next(&self, place: usize, pending: bool) -> Option<usize> {
         let first_sweeper = self.feeders.saturating_add(self.probers);
-        if place < self.feeders {
-            self.last.store(place as u64, Ordering::SeqCst);
-            self.after_feeder(place, pending)
-        } else if place < first_sweeper {
-            let last = self.last.load(Ordering::SeqCst) as usize;
-            self.after_feeder(last, false)
+        if place < first_sweeper {
+            self.after_feeder(pending)
         } else {
             self.after_sweeper(place)
         }
     }
 
-    fn after_feeder(&self, place: usize, pending: bool) -> Option<usize> {
+    fn after_feeder(&self, pending: bool) -> Option<usize> {
         let first_sweeper = self.feeders.saturating_add(self.probers);
         if pending {
             let prober = self.first_here(self.feeders, first_sweeper);
@@ -149,28 +164,30 @@ impl Floor {
                 return prober;
             }
         }
-        let feeder = self.first_here(place.saturating_add(1), self.feeders);
-        if feeder.is_some() {
-            return feeder;
-        }
-        let sweeper = self.first_due(first_sweeper);
-        if sweeper.is_some() {
-            return sweeper;
-        }
-        self.first_here(0, self.feeders)
+        self.sweeper_or_feeder(first_sweeper)
     }
 
     // Where no feeder is here a prober comes behind a sweeper, since what a sweep hands on may be probed.
     fn after_sweeper(&self, place: usize) -> Option<usize> {
-        let sweeper = self.first_due(place.saturating_add(1));
+        let next = self.sweeper_or_feeder(place.saturating_add(1));
+        if next.is_some() {
+            return next;
+        }
+        self.first_here(self.feeders, self.feeders.saturating_add(self.probers))
+    }
+
+    // A sweeper from this place on that has not come for long; the hindmost feeder; where none is here, a sweeper that has not
+    // come since something was fed or probed.
+    fn sweeper_or_feeder(&self, from: usize) -> Option<usize> {
+        let sweeper = self.first_due(from, SWEEPS);
         if sweeper.is_some() {
             return sweeper;
         }
-        let feeder = self.first_here(0, self.feeders);
+        let feeder = self.hindmost();
         if feeder.is_some() {
             return feeder;
         }
-        self.first_here(self.feeders, self.feeders.saturating_add(self.probers))
+        self.first_due(from, 1)
     }
 
     // ---- rounds
@@ -194,7 +211,36 @@ impl Floor {
         self.probed.load(Ordering::SeqCst) != self.rounds()
     }
 
-    // ---- the end
+    // ---- the begin and the end
+
+    /// One feeder more has begun.
+    pub(crate) fn count_begun(&self) {
+        self.begun.fetch_add(1, Ordering::SeqCst);
+        if self.have_begun() {
+            self.begun.wake_all();
+        }
+    }
+
+    // Whether all feeders have.
+    fn have_begun(&self) -> bool {
+        self.begun.load(Ordering::SeqCst) >= self.feeders as u64
+    }
+
+    /// Waits until all feeders have begun, so that none is ahead of one whose thread comes late; where no more come, so long.
+    pub(crate) fn await_all<R: Wait>(&self, rt: &R) {
+        for _ in 0..self.feeders {
+            let begun = self.begun.load(Ordering::SeqCst);
+            if begun >= self.feeders as u64 {
+                return;
+            }
+            let most = Duration::from_micros(BEGIN_REST);
+            self.begun
+                .park_timeout(rt, (begun % (1 << 32)) as u32, most);
+            if self.begun.load(Ordering::SeqCst) == begun {
+                return;
+            }
+        }
+    }
 
     /// One feeder more has ended.
     pub(crate) fn count_fed(&self) {

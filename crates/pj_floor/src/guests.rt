@@ -9,8 +9,10 @@ pub(crate) struct Guest {
     pub(crate) bell: Bell,
     here: AtomicBool,
     until: AtomicU64,
+    // How many rounds it made.
+    made: AtomicU64,
     // So that no two places share a line of the cache.
-    _apart: [u64; 11],
+    _apart: [u64; 10],
 }
 
 impl Guest {
@@ -20,7 +22,8 @@ impl Guest {
             bell: Bell::new(),
             here: AtomicBool::new(false),
             until: AtomicU64::new(0),
-            _apart: [0; 11],
+            made: AtomicU64::new(0),
+            _apart: [0; 10],
         }
     }
 
@@ -35,6 +38,16 @@ impl Guest {
 
     pub(crate) fn leave(&self) {
         self.here.store(false, Ordering::SeqCst);
+    }
+
+    /// How many rounds it made.
+    pub(crate) fn made(&self) -> u64 {
+        self.made.load(Ordering::SeqCst)
+    }
+
+    /// It made one more.
+    pub(crate) fn count(&self) {
+        self.made.fetch_add(1, Ordering::SeqCst);
     }
 
     /// The number of rounds of all at which it hands the floor on; of a sweeper, at which it had it last.

@@ -20,6 +20,11 @@ impl Pause for Floor {
     fn begin<R: Wait>(&self, rt: &R, role: Role, index: u32) {
         match role {
             Role::Writer => self.rest_writer(rt),
+            Role::Feeder => {
+                self.count_begun();
+                self.await_all(rt);
+                self.come(rt, role, index);
+            }
             _ => self.come(rt, role, index),
         }
     }
@@ -100,6 +105,7 @@ impl Floor {
         if !self.has_floor(place) {
             return self.come_to(rt, place, guest);
         }
+        guest.count();
         let rounds = self.count_round();
         if rounds >= guest.until() {
             if !self.hand_on(place, look.pending > 0) {

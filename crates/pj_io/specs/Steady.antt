@@ -1,8 +1,8 @@
 -- What the forms that never fail show.
-use Rattle.std.specs.Prelude.{ℕ, true, List, Option, Some, None}
+use Rattle.std.specs.Prelude.{ℕ, Bool, true, List, [], Option, Some, None}
 use Rattle.pj_io.specs.Books.{last_of, opened_in}
 use Rattle.pj_io.specs.MemoryFolders.{Added, added_of, bytes_of}
-use Rattle.pj_io.specs.States.{FolderState, SourceState}
+use Rattle.pj_io.specs.States.{FolderState, SinkState, SourceState}
 use Rattle.pj_io.specs.declared.book.Note.{Note}
 use Rattle.pj_io.specs.declared.memory_file.MemFile.{MemFile}
 
@@ -14,6 +14,18 @@ pub record SteadySourceState : Type 0 where
 -- a source that counts no faults
 abbrev pub steady : SourceState → SourceState
 steady source = record source { faults = 0 }
+
+-- A sink: whether it kept all that was written; what it kept; how many bytes a write takes at most; and for how many more bytes
+-- there is room
+pub record SteadySinkState : Type 0 where
+  pub told : Bool
+  pub kept : List ℕ
+  pub cut : ℕ
+  pub room : ℕ
+
+-- it tells what was written while it kept all of it, counts no faults and holds nothing back
+abbrev pub steady_sink : SteadySinkState → SinkState
+steady_sink s = record { told = s.told; written = s.kept; faults = 0; held = [] }
 
 -- A folder: its files, and what is noted of names
 pub record SteadyFolderState : Type 0 where

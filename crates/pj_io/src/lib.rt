@@ -14,6 +14,7 @@ mod sink;
 mod source;
 mod standard;
 mod steady_folder;
+mod steady_sink;
 mod steady_source;
 mod whole;
 
@@ -26,5 +27,6 @@ pub use sink::{Sink, write_all};
 pub use source::{Failed, Source};
 pub use standard::StdSink;
 pub use steady_folder::SteadyFolder;
+pub use steady_sink::SteadySink;
 pub use steady_source::SteadySource;
 pub use whole::{WholeStop, read_whole};

@@ -1,5 +1,5 @@
 // Cutting a line into its cells.
-ghost use Rattle.std.specs.Prelude.{◌≡◌, ◌≤◌, ◌<◌, ◌^◌, [], false, Ok, Err, length, drop, slice_index, IfErr, IfSome, OnOk};
+ghost use Rattle.std.specs.Prelude.{◌≡◌, ◌≤◌, ◌<◌, ◌^◌, [], false, Ok, Err, length, drop, slice_index, IfErr, IfSome, OnErr, OnOk};
 ghost use Rattle.pj_line.specs.Lines.{is_blank as blank};
 ghost use Rattle.pj_line.specs.Cells.{AreCut, after as after_byte, cells_of, is_outside, open_quote as open_place};
 ghost use Rattle.pj_line.specs.Cutting.{IsCellLen, IsAhead, IsFault, IsPlainLen, IsQuotedLen, ends_plain as is_end};
@@ -26,15 +26,22 @@ pub fn cells(line: &[u8]) -> Result<Cells<'_>, CellFault>
     }
 }
 
-/// The same, where the cells take the place of others. On a refusal nothing is said of them.
+/// The same, where the cells take the place of others. On a refusal none are left.
 pub fn cut_into<'a>(line: &'a [u8], cells: &mut Cells<'a>) -> Result<(), CellFault>
     requires { length line.now < 2 ^ 32 }
     ensures ok { OnOk result (AreCut line.now (Ok cells.new)) }
     ensures err { IfErr result (λ fault. AreCut line.now (Err fault)) }
+    ensures none { OnErr result (cells.new ≡ []) }
 {
     cells.line = line;
     cells.places.clear();
-    cut_places(line, &mut cells.places)
+    match cut_places(line, &mut cells.places) {
+        Ok(()) => Ok(()),
+        Err(fault) => {
+            cells.places.clear();
+            Err(fault)
+        }
+    }
 }
 
 // Puts the places of the line's cells into the list, which is empty.

@@ -5,6 +5,7 @@ pub mod NormalRanges
 pub mod NormalKinds
 pub mod NormalMatches
 pub mod NormalMeets
+pub mod Walking
 pub mod MeetMatches
 pub mod Covering
 pub mod Rows

@@ -89,7 +89,7 @@ below_next u v [] p q = tt
 below_next u v (w ∷ ws) p q = less_less u v w p q
 
 -- below the first is no member
-below_has : (u : Value) (vs : List Value) → IsBelow u vs → IsRising vs → has_value vs u ≡ false
+pub below_has : (u : Value) (vs : List Value) → IsBelow u vs → IsRising vs → has_value vs u ≡ false
 below_has u [] b r = refl
 below_has u (v ∷ vs) b r = rw (differ_if_greater v u (greater_if_less u v b)) (below_has u vs (below_next u v vs b r.0) r.1)
 

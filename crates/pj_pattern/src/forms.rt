@@ -6,6 +6,7 @@ ghost use Rattle.pj_pattern.specs.Normal.{IsNormal};
 use crate::pattern::Form;
 use pj_value::{Kind, NoMemory, Value, copy_values};
 use std::alloc::Global;
+use std::cmp::Ordering;
 
 pub(crate) fn form_fits(form: &Form, kind: Kind) -> bool
     ensures { result ≡ is_of_kind kind form.now }
@@ -95,7 +96,8 @@ fn has_value(members: &[Value], value: &Value) -> bool
 }
 
 pub(crate) fn form_covers(form: &Form, other: &Form) -> bool
-    requires { IsNormal form.now }
+    requires form { IsNormal form.now }
+    requires other { IsNormal other.now }
     ensures { result ≡ covers_pattern form.now other.now }
 {
     match other {
@@ -103,7 +105,7 @@ pub(crate) fn form_covers(form: &Form, other: &Form) -> bool
         Form::Empty => true,
         Form::Constant(value) => form_matches(form, value),
         Form::Range(low, high) => covers_range(form, low, high),
-        Form::Members(values) => matches_all(form, values.as_slice()),
+        Form::Members(values) => covers_members(form, values.as_slice()),
     }
 }
 
@@ -150,6 +152,47 @@ fn covers_high(high: &Option<Value>, other: &Option<Value>) -> bool
         (None, _) => true,
         (Some(_), None) => false,
         (Some(high), Some(other)) => is_up_to(other, high),
+    }
+}
+
+fn covers_members(form: &Form, values: &[Value]) -> bool
+    requires form { IsNormal form.now }
+    requires values { IsNormal (Form.Members values.now) }
+    ensures { result ≡ matches_all form.now values.now }
+{
+    match form {
+        Form::Wild => matches_all(form, values),
+        Form::Empty => matches_all(form, values),
+        Form::Constant(_) => matches_all(form, values),
+        Form::Range(_, _) => matches_all(form, values),
+        Form::Members(members) => has_all(members.as_slice(), values),
+    }
+}
+
+// Whether each of the values is a member: one walk over both, which stand in order.
+#[tactic(auto, using(crate::proofs::Walking::none_left, crate::proofs::Walking::all_passed))]
+fn has_all(members: &[Value], values: &[Value]) -> bool
+    requires members { IsNormal (Form.Members members.now) }
+    requires values { IsNormal (Form.Members values.now) }
+    ensures { result ≡ matches_all (Form.Members members.now) values.now }
+{
+    let mut left = members;
+    let mut rest = values;
+    loop {
+        match rest.split_first() {
+            None => return true,
+            Some((value, behind)) => match left.split_first() {
+                None => return false,
+                Some((member, others)) => match member.order(value) {
+                    Ordering::Less => left = others,
+                    Ordering::Equal => {
+                        left = others;
+                        rest = behind;
+                    }
+                    Ordering::Greater => return false,
+                },
+            },
+        }
     }
 }
 

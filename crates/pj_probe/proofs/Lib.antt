@@ -14,6 +14,7 @@ pub mod Lacking
 pub mod Looped
 pub mod Pairs
 pub mod Partners
+pub mod Narrowed
 pub mod Probed
 pub mod Routed
 pub mod Suiting

@@ -1,7 +1,6 @@
 -- What a tuple of two inputs is joined with is found by one look-up.
-use Rattle.std.proofs.Common.{◌≡◌, ℕ, ◌<◌, ◌-◌, Bool, true, false, ◌&&◌, List, [], ◌∷◌, Option, None, Some, IfSome, filter, map, length, get_or, refl, sym, ap, ap₂, ◌∙◌, subst, inl, inr, ltb, cond, arith}
+use Rattle.std.proofs.Common.{◌≡◌, ℕ, ◌<◌, ◌-◌, Bool, true, false, ◌&&◌, List, [], ◌∷◌, filter, map, length, get_or, refl, sym, ap, ap₂, ◌∙◌, subst, inl, inr, ltb, cond, arith}
 use Rattle.std.specs.Arc.{arc_value}
-use Rattle.std.specs.List.{slice_get}
 use Rattle.std.proofs.lemmas.Bool.{and_from, and_parts, eq-eqb, false_from_ne_true, false≢true}
 use Rattle.pj_value.specs.declared.values.Value.{Value}
 use Rattle.pj_value.proofs.Members.{filter-agree}
@@ -18,7 +17,7 @@ use Rattle.pj_rows.proofs.States.{same-at, side_at, tuples-length}
 use Rattle.pj_probe.specs.Choices.{choice, choices, older_joins}
 use Rattle.pj_probe.specs.Partners.{AllAgree, AreLinkedTo, ArePartners}
 use Rattle.pj_probe.specs.Results.{found_out, older_agrees, pair_of, pairs_out}
-use Rattle.pj_probe.specs.Routes.{IsProbeRoute, columns_of}
+use Rattle.pj_probe.specs.Routes.{InOneClass, IsOwnLink, IsProbeRoute, TwoDecide, columns_of}
 use Rattle.pj_probe.specs.declared.route.ProbeLink.{ProbeLink}
 use Rattle.pj_probe.specs.declared.route.ProbeRoute.{ProbeRoute}
 use Rattle.pj_probe.proofs.Checked.{same-ways}
@@ -27,7 +26,7 @@ use Rattle.pj_probe.proofs.Filtering.{filter-none}
 use Rattle.pj_probe.proofs.Finding.{product-has}
 use Rattle.pj_probe.proofs.HandedOut.{both-found}
 use Rattle.pj_probe.proofs.Pairs.{own-pair, two_states}
-use Rattle.pj_probe.proofs.Routed.{IsOneLink, one_class_link, one_link}
+use Rattle.pj_probe.proofs.Routed.{columns_at}
 use Rattle.pj_probe.proofs.Wanted.{candidates_hold, wanted_by_link}
 
 -- ---- two tuples
@@ -102,29 +101,27 @@ pairs-found classes own row_states input among lt two is same = go (agrees_with 
         ap (λ (ys : List TupleAt). map Tuple (map (pair_of own) ys)) (filter-none (older_agrees classes own) among (λ y. false_from_ne_true (older_agrees classes own y) (λ t. false≢true (sym not ∙ (and_parts (agrees_with classes [] own) (agrees_with classes (own ∷ []) y) (sym (agree-agrees_with classes own y) ∙ (and_parts (ltb y.ticket own.ticket) (agree classes (own ∷ y ∷ [])) t).1)).0))))
         ∙ sym (none-found classes own (tuples_in 0 row_states) (omega (arith, lt, two, tuples-length 0 row_states)) not)
 
--- rows that a route's one link leads to are such
+-- an index is kept for a link of the route
+pub link_indexed : (own : TupleAt) (row_states : List StateView) (route : ProbeRoute) (input : ℕ) (link : ProbeLink) → length row_states ≡ 2 → IsProbeRoute (arc_value route.checks) (columns_of row_states) own.input route
+    → input ≡ 1 - own.input → In link route.links → In link.index_column (state_at row_states input).columns
+link_indexed own row_states route input link two right other has =
+    subst (λ (cs : List ℕ). In link.index_column cs) (columns_at row_states input no_state (omega (arith, other, two))) (subst (λ n. In link.index_column (get_or (columns_of row_states) n [])) (sym other) (right.links_lead link has).indexed)
+
+-- rows that a link of the route leads to are such
 pub partners_found : (own : TupleAt) (row_states : List StateView) (route : ProbeRoute) (input : ℕ) (link : ProbeLink) (found : List Stored) → own.input < length row_states → length row_states ≡ 2 → AreWide row_states → IsProbeRoute (arc_value route.checks) (columns_of row_states) own.input route
-    → slice_get route.steps 0 ≡ Some (record { input = input; link = Some link }) → AreLinkedTo own link (state_at row_states input).rows found → ArePartners route own row_states found
-partners_found own row_states route input link found lt two wide right first linked = record {
+    → input ≡ 1 - own.input → In link route.links → AreLinkedTo own link (state_at row_states input).rows found → ArePartners route own row_states found
+partners_found own row_states route input link found lt two wide right other has linked = record {
   two = omega (arith, lt, two);
   all = ap (λ n. pairs_out classes own (map (tuple_in n) found)) (sym other) ∙ pairs-found classes own row_states input (map (tuple_in input) found) (omega (arith, lt, two)) two other
-      (candidates_hold classes own (state_at row_states input) found input link.index_column linked.0 (wide input one.there) (wanted_by_link classes own input link linked.0 one.from (one_class_link classes route.steps input link right.classes_have first) (sym linked.1)) one.indexed linked.2);
-  decided = λ t. subst (λ n. AllAgree classes own n found) other (decided_agree classes own input link (state_at row_states input).rows found (right.decides t (record { input = input; link = Some link }) link first refl) linked);
+      (candidates_hold classes own (state_at row_states input) found input link.index_column linked.0 (wide input there) (wanted_by_link classes own input link linked.0 is.from (subst (λ n. InOneClass classes n link) (sym other) is.class_has) (sym linked.1)) (link_indexed own row_states route input link two right other has) linked.2);
+  decided = λ t. subst (λ n. AllAgree classes own n found) other (decided_agree classes own input link (state_at row_states input).rows found (subst (λ n. TwoDecide classes own.input n link.from_column link.index_column) (sym other) (right.decides t link has)) linked);
 }
   where
     classes : List (List ClassCol)
     classes = arc_value route.checks
 
-    one : IsOneLink row_states own.input input link
-    one = one_link own.input row_states route.steps input link right.leads first
+    is : IsOwnLink classes (columns_of row_states) own.input link
+    is = right.links_lead link has
 
-    other : input ≡ 1 - own.input
-    other = let there : input < length row_states = one.there in two_numbers input own.input (omega (arith, there, two)) (omega (arith, lt, two)) one.other
-      where
-        two_numbers : (n m : ℕ) → n < 2 → m < 2 → (n ≡ m → ⊥) → n ≡ 1 - m
-        two_numbers n m a b differ = omega (arith, a, b, differ)
-
-pub partners_if : (own : TupleAt) (row_states : List StateView) (route : ProbeRoute) (input : ℕ) (link : ProbeLink) (found : Option (List Stored)) → own.input < length row_states → length row_states ≡ 2 → AreWide row_states → IsProbeRoute (arc_value route.checks) (columns_of row_states) own.input route
-    → slice_get route.steps 0 ≡ Some (record { input = input; link = Some link }) → IfSome found (AreLinkedTo own link (state_at row_states input).rows) → IfSome found (ArePartners route own row_states)
-partners_if own row_states route input link None lt two wide right first linked = tt
-partners_if own row_states route input link (Some found) lt two wide right first linked = partners_found own row_states route input link found lt two wide right first linked
+    there : input < length row_states
+    there = omega (arith, other, two)

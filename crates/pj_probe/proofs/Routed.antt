@@ -1,18 +1,17 @@
 -- Routes of probes that are made step by step.
-use Rattle.std.proofs.Common.{ℕ, zero, suc, ◌+◌, ◌<◌, ◌==◌, Bool, true, false, ◌||◌, List, [], ◌∷◌, ◌++◌, ◌≡◌, ◌⊎◌, Option, Some, None, set, take, length, get_or, refl, sym, ap, ◌∙◌, subst, inl, inr, arith}
+use Rattle.std.proofs.Common.{ℕ, zero, suc, ◌+◌, ◌-◌, ◌<◌, ◌==◌, Bool, true, false, ◌||◌, List, [], ◌∷◌, ◌++◌, ◌≡◌, ◌⊎◌, Option, Some, None, set, take, length, get_or, refl, sym, ap, ◌∙◌, subst, inl, inr, arith}
 use Rattle.std.specs.Arc.{arc_value}
 use Rattle.std.specs.List.{list_any, slice_get}
 use Rattle.std.specs.Prelude.{IfSome}
-use Rattle.std.proofs.lemmas.Bool.{cases_lt, eqb-true, eq-eqb, false≢true, or_cases, or_left, or_right}
+use Rattle.std.proofs.lemmas.Bool.{cases_lt, eqb-true, eq-eqb, or_cases, or_left, or_right}
 use Rattle.std.proofs.lemmas.List.{length-append, length-map, take_more}
 use Rattle.std.proofs.lemmas.List.Folds.{list_any-append}
 use Rattle.std.proofs.lemmas.Option.{get_or_from_slice_get, slice_get_within}
 use Rattle.pj_value.proofs.Members.{In-append_cases, in-place}
 use Rattle.pj_state.specs.States.{StateView}
 use Rattle.pj_events.specs.Join.{ClassCol, In}
-use Rattle.pj_probe.specs.Routes.{AreBegun, AreInClasses, AreProbeRoutes, AreReached, AreRoutesTo, AreSteps, FirstDecides, InOneClass, IsLinkOf, IsProbeRoute, IsRoute, IsStep, LeadsTo, TwoDecide, columns_of, is_reached}
+use Rattle.pj_probe.specs.Routes.{AreBegun, AreInClasses, AreOwnLinks, AreProbeRoutes, AreReached, AreRoutesTo, AreSteps, InOneClass, IsLinkOf, IsOwnLink, IsProbeRoute, IsRoute, IsStep, LeadsTo, LinksDecide, columns_of, is_reached}
 use Rattle.pj_rows.proofs.Indexed.{indexed-in}
-use Rattle.pj_rows.specs.Tuples.{no_state}
 use Rattle.pj_probe.specs.declared.route.ProbeLink.{ProbeLink}
 use Rattle.pj_probe.specs.declared.route.ProbeStep.{ProbeStep}
 use Rattle.pj_probe.specs.declared.route.ProbeRoute.{ProbeRoute}
@@ -122,8 +121,11 @@ pub link_found : (class : List ClassCol) (own : ℕ) (steps : List ProbeStep) (i
     → IsLinkOf class own steps input (record { index_column = mine; from_input = (get_or class i d).input; from_column = (get_or class i d).column })
 link_found class own steps input mine i d there lt reached = record { mine = there; theirs = in-place class d i lt; from = sym reached }
 
+pub class_there : (classes : List (List ClassCol)) (class : List ClassCol) (i : ℕ) → i < length classes → class ≡ get_or classes i class → In class classes
+class_there classes class i lt is = subst (λ (c : List ClassCol). In c classes) (sym is) (in-place classes class i lt)
+
 pub link_by_class : (classes : List (List ClassCol)) (class : List ClassCol) (i own : ℕ) (steps : List ProbeStep) (input : ℕ) (link : ProbeLink) → i < length classes → class ≡ get_or classes i class → IsLinkOf class own steps input link → InOneClass classes input link
-link_by_class classes class i own steps input link lt is of = (class, subst (λ (c : List ClassCol). In c classes) (sym is) (in-place classes class i lt), of.mine, of.theirs)
+link_by_class classes class i own steps input link lt is of = (class, class_there classes class i lt is, of.mine, of.theirs)
 
 -- the columns of a state are those of its input
 pub columns_at : (row_states : List StateView) (k : ℕ) (d : StateView) → k < length row_states → get_or (columns_of row_states) k [] ≡ (get_or row_states k d).columns
@@ -139,26 +141,37 @@ link_leads row_states state own steps input link b lt at from t is = record { fr
 -- ---- a whole route
 
 pub route_made : (classes : List (List ClassCol)) (row_states : List StateView) (own : ℕ) (route : ProbeRoute) → AreBegun classes (columns_of row_states) own route.steps → AreReached (length row_states) own route.steps
-    → (route.decides ≡ true → FirstDecides classes own route.steps) → arc_value route.checks ≡ classes → IsProbeRoute classes (columns_of row_states) own route
-route_made classes row_states own route begun all decides checks = record {
+    → AreOwnLinks classes (columns_of row_states) own route.links → (route.decides ≡ true → LinksDecide classes own route.links) → arc_value route.checks ≡ classes → IsProbeRoute classes (columns_of row_states) own route
+route_made classes row_states own route begun all links decides checks = record {
   leads = record { ordered = begun.ordered; all = λ k lt. all k (omega (arith, lt, length-map row_states (λ (s : StateView). s.columns))) };
   classes_have = begun.classes_have;
+  links_lead = links;
   decides = decides;
   checks = checks;
 }
 
--- the first step alone has the link
-pub first_by_link : (classes : List (List ClassCol)) (own : ℕ) (steps : List ProbeStep) (input : ℕ) (link : ProbeLink) → slice_get steps 0 ≡ Some (record { input = input; link = Some link }) → TwoDecide classes own input link.from_column link.index_column → FirstDecides classes own steps
-first_by_link classes own steps input link at two s l is has = subst (λ (m : ProbeLink). TwoDecide classes own s.input m.from_column m.index_column) same-link (subst (λ (n : ℕ). TwoDecide classes own n link.from_column link.index_column) (ap (λ (t : ProbeStep). t.input) same) two)
+-- ---- the links of two inputs
+
+pub own_links_none : (classes : List (List ClassCol)) (columns : List (List ℕ)) (own : ℕ) (links : List ProbeLink) → links ≡ [] → AreOwnLinks classes columns own links
+own_links_none classes columns own links e link h = absurd (subst (λ (ls : List ProbeLink). In link ls) e h)
+
+-- the link of one class more
+pub own_link_more : (classes : List (List ClassCol)) (row_states : List StateView) (state : StateView) (own other : ℕ) (class : List ClassCol) (link : ProbeLink) (old new : List ProbeLink) (b : Bool) → AreOwnLinks classes (columns_of row_states) own old → length row_states ≡ 2 → In class classes
+    → other ≡ 1 - own → IsLinkOf class own [] other link → state ≡ get_or row_states other state → b ≡ true → b ≡ list_any (λ c. link.index_column == c) state.columns → new ≡ old ++ link ∷ [] → AreOwnLinks classes (columns_of row_states) own new
+own_link_more classes row_states state own other class link old new b are two there is of at t told e l h = elim (In-append_cases l old (link ∷ []) (subst (λ (ls : List ProbeLink). In l ls) e h)) [
+  | inl before ↦ are l before
+  | inr now ↦ elim now [ inl same ↦ subst (λ (m : ProbeLink). IsOwnLink classes (columns_of row_states) own m) same it | inr n ↦ absurd n ]
+]
   where
-    some : {B : Type 0} {a b : B} → Some a ≡ Some b → a ≡ b
-    some q = cc
+    leads : LeadsTo (get_or (columns_of row_states) other []) own [] link
+    leads = link_leads row_states state own [] other link b (omega (arith, two, is)) at of.from t told
 
-    same : record { input = input; link = Some link } ≡ s
-    same = some (sym at ∙ is)
-
-    same-link : link ≡ l
-    same-link = some (ap (λ (t : ProbeStep). t.link) same ∙ has)
+    it : IsOwnLink classes (columns_of row_states) own link
+    it = record {
+      from = sym (eqb-true own link.from_input of.from);
+      class_has = subst (λ n. InOneClass classes n link) is (class, there, of.mine, of.theirs);
+      indexed = subst (λ n. In link.index_column (get_or (columns_of row_states) n [])) is leads.indexed;
+    }
 
 pub routes_more : (classes : List (List ClassCol)) (columns : List (List ℕ)) (own : ℕ) (routes new : List ProbeRoute) (route : ProbeRoute) → AreRoutesTo classes columns own routes → IsProbeRoute classes columns own route → new ≡ routes ++ route ∷ [] → AreRoutesTo classes columns (own + 1) new
 routes_more classes columns own routes new route are is e = subst (λ (rs : List ProbeRoute). AreRoutesTo classes columns (own + 1) rs) (sym e) record {
@@ -179,30 +192,6 @@ steps_with steps i step at = take_more steps i step (slice_get_within steps i st
 
 pub step_there : (own : ℕ) (row_states : List StateView) (steps : List ProbeStep) (i : ℕ) (step : ProbeStep) → IsRoute (columns_of row_states) own steps → slice_get steps i ≡ Some step → step.input < length row_states
 step_there own row_states steps i step route at = omega (arith, (route.ordered i step at).there, length-map row_states (λ (s : StateView). s.columns))
-
--- where it is one step, that leads from the own input to another
-pub record IsOneLink (row_states : List StateView) (own input : ℕ) (link : ProbeLink) : Type 0 where
-  pub there : input < length row_states
-  pub other : input ≡ own → ⊥
-  pub from : link.from_input ≡ own
-  pub indexed : In link.index_column (get_or row_states input no_state).columns
-
-pub one_link : (own : ℕ) (row_states : List StateView) (steps : List ProbeStep) (input : ℕ) (link : ProbeLink) → IsRoute (columns_of row_states) own steps → slice_get steps 0 ≡ Some (record { input = input; link = Some link }) → IsOneLink row_states own input link
-one_link own row_states steps input link route at = record {
-  there = step_there own row_states steps 0 (record { input = input; link = Some link }) route at;
-  other = λ e. false≢true (sym is.other ∙ eq-eqb own input (sym e));
-  from = sym (eqb-true own link.from_input is.link.from);
-  indexed = subst (λ (cs : List ℕ). In link.index_column cs) (columns_at row_states input no_state (step_there own row_states steps 0 (record { input = input; link = Some link }) route at)) is.link.indexed;
-}
-  where
-    is : IsStep (columns_of row_states) own [] (record { input = input; link = Some link })
-    is = route.ordered 0 (record { input = input; link = Some link }) at
-
-pub one_class_link : (classes : List (List ClassCol)) (steps : List ProbeStep) (input : ℕ) (link : ProbeLink) → AreInClasses classes steps → slice_get steps 0 ≡ Some (record { input = input; link = Some link }) → InOneClass classes input link
-one_class_link classes steps input link are at =
-    are (record { input = input; link = Some link })
-    (subst (λ (s : ProbeStep). In s steps) (get_or_from_slice_get steps 0 (record { input = input; link = Some link }) (record { input = input; link = Some link }) at)
-    (in-place steps (record { input = input; link = Some link }) 0 (slice_get_within steps 0 (record { input = input; link = Some link }) at)))
 
 -- ---- the routes of a join
 

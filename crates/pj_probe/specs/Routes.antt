@@ -1,5 +1,5 @@
 -- The routes of probes: in which order other inputs are reached from a tuple, and where their rows are looked up.
-use Rattle.std.specs.Prelude.{ℕ, ◌≡◌, ◌<◌, ◌==◌, ◌||◌, Bool, true, false, List, [], ◌∷◌, Some, IfSome, length, map, slice_get, slice_index_or, take}
+use Rattle.std.specs.Prelude.{ℕ, ◌≡◌, ◌<◌, ◌-◌, ◌==◌, ◌||◌, Bool, true, false, List, [], ◌∷◌, Some, IfSome, length, map, slice_get, slice_index_or, take}
 use Rattle.std.specs.Arc.{arc_value}
 use Rattle.std.specs.List.{list_any}
 use Rattle.pj_value.specs.Values.{value_eq}
@@ -67,17 +67,35 @@ pub record TwoDecide (classes : List (List ClassCol)) (own input mine theirs : �
   pub alone : (x : TupleAt) → x.input ≡ own → agrees_with classes [] x ≡ true
   pub both : (x y : TupleAt) → x.input ≡ own → y.input ≡ input → agrees_with classes (x ∷ []) y ≡ value_eq (value_at y.row theirs) (value_at x.row mine)
 
--- the columns of the first step do
-abbrev pub FirstDecides : List (List ClassCol) → ℕ → List ProbeStep → Type 0
-FirstDecides classes own steps =
-    (step : ProbeStep) (link : ProbeLink) → slice_get steps 0 ≡ Some step → step.link ≡ Some link → TwoDecide classes own step.input link.from_column link.index_column
+-- the link leads from the own one of two inputs to a column of the other, of which an index is kept
+pub record IsOwnLink (classes : List (List ClassCol)) (columns : List (List ℕ)) (own : ℕ) (link : ProbeLink) : Type 0 where
+  pub from : link.from_input ≡ own
+  pub class_has : InOneClass classes (1 - own) link
+  pub indexed : In link.index_column (slice_index_or columns (1 - own) [])
+
+-- so does each of these
+abbrev pub AreOwnLinks : List (List ClassCol) → List (List ℕ) → ℕ → List ProbeLink → Type 0
+AreOwnLinks classes columns own links = (link : ProbeLink) → In link links → IsOwnLink classes columns own link
+
+-- the columns of each of these links of two inputs decide which tuples join
+abbrev pub LinksDecide : List (List ClassCol) → ℕ → List ProbeLink → Type 0
+LinksDecide classes own links = (link : ProbeLink) → In link links → TwoDecide classes own (1 - own) link.from_column link.index_column
 
 -- the route is right for the tuples of this input of a join by these classes
 pub record IsProbeRoute (classes : List (List ClassCol)) (columns : List (List ℕ)) (own : ℕ) (route : ProbeRoute) : Type 0 where
   pub leads : IsRoute columns own route.steps
   pub classes_have : AreInClasses classes route.steps
-  pub decides : route.decides ≡ true → FirstDecides classes own route.steps
+  pub links_lead : AreOwnLinks classes columns own route.links
+  pub decides : route.decides ≡ true → LinksDecide classes own route.links
   pub checks : arc_value route.checks ≡ classes
+
+-- the step goes to the other one of two inputs by one of the route's links
+pub record IsOwnStep (count own : ℕ) (route : ProbeRoute) (step : ProbeStep) : Type 0 where
+  pub two : count ≡ 2
+  pub other : step.input ≡ 1 - own
+  pub link : ProbeLink
+  pub by_link : step.link ≡ Some link
+  pub of_route : In link route.links
 
 -- there is one for each of the first so many inputs
 pub record AreRoutesTo (classes : List (List ClassCol)) (columns : List (List ℕ)) (upto : ℕ) (routes : List ProbeRoute) : Type 0 where

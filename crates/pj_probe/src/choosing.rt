@@ -5,9 +5,10 @@ ghost use Rattle.pj_events.specs.Join.{value_at};
 ghost use Rattle.pj_state.specs.Rising.{IsRising};
 ghost use Rattle.pj_state.specs.States.{pairs, rows_below, ticket_of};
 ghost use Rattle.pj_probe.specs.Walks.{tuple_at};
-ghost use Rattle.pj_probe.specs.Hops.{AreFound, AreLinked, AreMore, AreStepped, BeginsWith, FindAll, HaveTickets, LacksAny, LacksPartner, all_under, older_under};
+ghost use Rattle.pj_probe.specs.Hops.{AreFound, AreLinked, AreMore, AreStepped, BeginsWith, FindAll, FindSame, HaveTickets, LacksAny, LacksPartner, all_under, older_under};
 ghost use Rattle.pj_probe.specs.Partners.{AreLinkedTo};
-ghost use Rattle.pj_probe.specs.Routes.{IsRoute, columns_of};
+ghost use Rattle.std.specs.Arc.{arc_value};
+ghost use Rattle.pj_probe.specs.Routes.{IsOwnStep, IsProbeRoute, IsRoute, columns_of};
 ghost use Rattle.pj_rows.specs.Tuples.{AreWide, IsWide, state_at};
 
 use crate::Lent;
@@ -17,28 +18,22 @@ use pj_state::{Matching, Spot, State};
 use pj_value::{List, NoMemory, Row};
 use std::alloc::Global;
 use std::mem;
+use std::slice::from_ref;
 
 /// Rows with their tickets, in order of these.
 pub type Rows<'a> = List<(u64, Lent<'a>)>;
-
-// The tuple's own row.
-fn alone<'a>(alloc: Global, own: &Arrived<'a>) -> Result<Rows<'a>, NoMemory>
-    ensures { IfOk result (λ list. map (tuple_at own.now.input) list ≡ own.now ∷ []) }
-{
-    let mut list = List::with_room(alloc, 1)?;
-    list.push((own.ticket(), Lent::of(own.row())))?;
-    Ok(list)
-}
 
 // The tuple's own row where it is asked for, and else none.
 fn alone_if<'a>(alloc: Global, own: &Arrived<'a>, is_own: bool) -> Result<Rows<'a>, NoMemory>
     ensures own { IfOk result (λ list. is_own ≡ true → map (tuple_at own.now.input) list ≡ own.now ∷ []) }
     ensures other { IfOk result (λ list. is_own ≡ false → list ≡ []) }
 {
-    if is_own {
-        return alone(alloc, own);
+    if !is_own {
+        return Ok(List::new(alloc));
     }
-    Ok(List::new(alloc))
+    let mut list = List::with_room(alloc, 1)?;
+    list.push((own.ticket(), Lent::of(own.row())))?;
+    Ok(list)
 }
 
 // The tuple's own row, and none of another input.
@@ -314,23 +309,21 @@ fn lacks_any(steps: &[ProbeStep], own: &Arrived<'_>, sides: &[State]) -> bool
     false
 }
 
-/// For each input rows that hold all which may stand in a combination with this tuple: of its own input its own row alone,
-/// of each other older ones, as the steps of the route find them. Where a step finds none, or of several steps one is seen to
-/// find none before they are gone, there are none of those behind it.
-pub fn choices<'a>(
+// For each input rows that hold all which may stand in a combination with this tuple, as these steps find them. Where a step
+// finds none, or of several steps one is seen to find none before they are gone, there are none of those behind it.
+fn followed<'a>(
     alloc: Global,
-    route: &ProbeRoute,
+    steps: &[ProbeStep],
     own: &Arrived<'a>,
     sides: &'a [State],
 ) -> Result<List<Rows<'a>>, NoMemory>
     requires there { own.now.input < length sides.now }
     requires wide { AreWide sides.now }
-    requires route { IsRoute (columns_of sides.now) own.now.input route.now.steps }
-    ensures same { IfOk result (FindAll own.now sides.now route.now.steps) }
+    requires route { IsRoute (columns_of sides.now) own.now.input steps.now }
+    ensures same { IfOk result (FindAll own.now sides.now steps.now) }
     ensures count { IfOk result (λ found. length found ≡ length sides.now) }
 {
     let mut lists = begin(alloc, own, sides.len())?;
-    let steps = route.steps.as_slice();
     if steps.len() > 1 && lacks_any(steps, own, sides) {
         return Ok(List::of(lists));
     }
@@ -340,4 +333,62 @@ pub fn choices<'a>(
         }
     }
     Ok(List::of(lists))
+}
+
+/// The step from the own one of two inputs to the other by the link that leads to the fewest rows; `None` where there is no link,
+/// or there are more inputs.
+#[tactic(auto, using(crate::proofs::Narrowed::own_step))]
+pub fn narrowest<'a>(route: &ProbeRoute, own: &Arrived<'a>, sides: &'a [State]) -> Option<ProbeStep>
+    requires there { own.now.input < length sides.now }
+    requires route { IsProbeRoute (arc_value route.now.checks) (columns_of sides.now) own.now.input route.now }
+    ensures { IfSome result (IsOwnStep (length sides.now) own.now.input route.now) }
+{
+    if sides.len() != 2 {
+        return None;
+    }
+    let input = 1u32.saturating_sub(own.input()) as usize;
+    let links = route.links.as_slice();
+    let mut best = None;
+    let mut fewest = usize::MAX;
+    for at in 0..links.len() {
+        let step = ProbeStep {
+            input,
+            link: Some(links[at]),
+        };
+        if links.len() == 1 {
+            return Some(step);
+        }
+        match linked_to(own, sides, input, links[at]) {
+            None => {}
+            Some(rows) => {
+                if best.is_none() || rows.len() < fewest {
+                    fewest = rows.len();
+                    best = Some(step);
+                }
+            }
+        }
+    }
+    best
+}
+
+/// For each input rows that hold all which may stand in a combination with this tuple: of its own input its own row alone,
+/// of each other older ones, as the steps of the route find them; of the other one of two inputs by the link that leads to the
+/// fewest.
+#[tactic(auto, using(crate::proofs::Narrowed::own_step_route, crate::proofs::Narrowed::narrow_same, crate::proofs::Narrowed::route_same))]
+pub fn choices<'a>(
+    alloc: Global,
+    route: &ProbeRoute,
+    own: &Arrived<'a>,
+    sides: &'a [State],
+) -> Result<List<Rows<'a>>, NoMemory>
+    requires there { own.now.input < length sides.now }
+    requires wide { AreWide sides.now }
+    requires route { IsProbeRoute (arc_value route.now.checks) (columns_of sides.now) own.now.input route.now }
+    ensures same { IfOk result (FindSame (arc_value route.now.checks) own.now sides.now) }
+    ensures count { IfOk result (λ found. length found ≡ length sides.now) }
+{
+    match narrowest(route, own, sides) {
+        None => followed(alloc, route.steps.as_slice(), own, sides),
+        Some(step) => followed(alloc, from_ref(&step), own, sides),
+    }
 }

@@ -7,7 +7,7 @@ ghost use Rattle.pj_probe.specs.Results.{found_out, pair_of, pairs_out};
 ghost use Rattle.pj_probe.specs.Routes.{IsProbeRoute, columns_of};
 ghost use Rattle.pj_rows.specs.Tuples.{AreWide, tuple_in, tuples_in};
 
-use crate::choosing::{choices, linked_to};
+use crate::choosing::{choices, linked_to, narrowest};
 use crate::route::ProbeRoute;
 use crate::{JoinChecks, Joined, Visit, each_lent};
 use pj_events::Out;
@@ -30,19 +30,21 @@ fn make_room(alloc: Global, outs: &mut List<Out>, count: usize) -> Result<(), No
     Ok(())
 }
 
-// The rows of the other one of two inputs among which all are that the tuple is joined with; `None` where no index tells.
+// The rows of the other one of two inputs among which all are that the tuple is joined with: those of the link that leads to the
+// fewest. `None` where no link tells.
+#[tactic(auto, using(crate::proofs::Narrowed::own_step_there, crate::proofs::Narrowed::own_step_indexed, crate::proofs::Narrowed::narrow_partners))]
 fn partners<'a>(route: &ProbeRoute, own: &Arrived<'a>, sides: &'a [State]) -> Option<Matching<'a>>
     requires there { own.now.input < length sides.now }
     requires wide { AreWide sides.now }
     requires route { IsProbeRoute (arc_value route.now.checks) (columns_of sides.now) own.now.input route.now }
     ensures { IfSome result (ArePartners route.now own.now sides.now) }
 {
-    if sides.len() != 2 {
-        return None;
-    }
-    match route.one_link() {
+    match narrowest(route, own, sides) {
         None => None,
-        Some((input, link)) => linked_to(own, sides, input, link),
+        Some(step) => match step.link {
+            None => None,
+            Some(link) => linked_to(own, sides, step.input, link),
+        },
     }
 }
 

@@ -1,8 +1,9 @@
 // The routes of probes: in which order the other inputs are reached from a tuple, and where their rows are looked up.
-ghost use Rattle.std.specs.Prelude.{◌≡◌, ◌+◌, ◌<◌, ◌==◌, true, ◌∷◌, [], length, slice_get, slice_index_or, Some, IfOk, IfSome, OnOk};
+ghost use Rattle.std.specs.Prelude.{◌≡◌, ◌+◌, ◌-◌, ◌<◌, ◌==◌, true, ◌∷◌, [], length, slice_get, slice_index_or, Some, IfOk, IfSome, OnOk};
 ghost use Rattle.std.specs.Arc.{arc_value};
 ghost use Rattle.std.specs.List.{list_any};
-ghost use Rattle.pj_probe.specs.Routes.{AreBegun, AreProbeRoutes, AreReached, FirstDecides, InOneClass, IsLinkOf, IsProbeRoute, LeadsTo, TwoDecide, columns_of, is_reached};
+ghost use Rattle.pj_value.specs.Lists.{In};
+ghost use Rattle.pj_probe.specs.Routes.{AreBegun, AreOwnLinks, AreProbeRoutes, AreReached, InOneClass, IsLinkOf, IsProbeRoute, LeadsTo, LinksDecide, TwoDecide, columns_of, is_reached};
 
 use crate::checks::{JoinChecks, share_checks};
 use pj_rows::{Arrived, column_in};
@@ -27,22 +28,15 @@ pub struct ProbeStep {
     pub link: Option<ProbeLink>,
 }
 
-/// How the tuples of an input reach the rows of all others, whether the columns of the first step decide that two join, and what
-/// else is compared of rows that are found.
+/// How the tuples of an input reach the rows of all others, and what else is compared of rows that are found. Of two inputs the
+/// links from the own one to the other, one for each class that has columns of both, and whether such a link decides alone which
+/// tuples join.
 #[derive(Drop)]
 pub struct ProbeRoute {
     pub steps: List<ProbeStep>,
+    pub links: List<ProbeLink>,
     pub decides: bool,
     pub checks: Arc<JoinChecks, Global>,
-}
-
-impl ProbeRoute {
-    /// The input of its one step and the link to it, where it has one step and that a link.
-    pub fn one_link(&self) -> Option<(usize, ProbeLink)>
-        ensures { IfSome result (λ one. slice_get self.now.steps 0 ≡ Some (record { input = one.0; link = Some one.1 })) }
-    {
-        one_link(self.steps.as_slice())
-    }
 }
 
 // What a route is made of: the classes, the states of the inputs, and the own input.
@@ -95,9 +89,11 @@ impl<'a> Shape<'a> {
             self.step_by_links(&mut steps)?;
         }
         self.step_to_rest(&mut steps)?;
-        let decides = self.first_decides(steps.as_slice());
+        let links = self.own_links(alloc)?;
+        let decides = self.links_decide(links.as_slice());
         Ok(ProbeRoute {
             steps,
+            links,
             decides,
             checks,
         })
@@ -193,28 +189,49 @@ impl<'a> Shape<'a> {
         }
     }
 
-    // Whether the columns of the first step decide which tuples join.
-    #[tactic(auto, using(crate::proofs::Routed::first_by_link))]
-    fn first_decides(&self, steps: &[ProbeStep]) -> bool
-        ensures { result ≡ true → FirstDecides self.now.classes.now self.now.own steps.now }
+    // The links from the own one of two inputs to the other; none where there are more inputs.
+    #[tactic(auto, using(crate::proofs::Routed::own_links_none, crate::proofs::Routed::class_there))]
+    fn own_links(&self, alloc: Global) -> Result<List<ProbeLink>, NoMemory>
+        ensures { IfOk result (AreOwnLinks self.now.classes.now (columns_of self.now.row_states.now) self.now.own) }
     {
-        match one_link(steps) {
-            None => false,
-            Some((input, link)) => two_decide(self.classes, self.own, input, link),
+        let mut links = List::new(alloc);
+        if self.row_states.len() != 2 {
+            return Ok(links);
+        }
+        for class in self.classes {
+            self.add_own_link(class.as_slice(), &mut links)?;
+        }
+        Ok(links)
+    }
+
+    // Puts the link by a class at the end, where that has columns of both and an index is kept of the other's.
+    fn add_own_link(&self, class: &[ClassCol], links: &mut List<ProbeLink>) -> Result<(), NoMemory>
+        requires two { length self.now.row_states.now ≡ 2 }
+        requires class { In class.now self.now.classes.now }
+        requires before { AreOwnLinks self.now.classes.now (columns_of self.now.row_states.now) self.now.own links.old }
+        ensures { OnOk result (AreOwnLinks self.now.classes.now (columns_of self.now.row_states.now) self.now.own links.new) }
+    {
+        let other = 1usize.saturating_sub(self.own);
+        match link_in(class, self.own, &[], other) {
+            None => Ok(()),
+            Some(link) => {
+                if self.row_states[other].is_indexed(link.index_column) {
+                    links.push(link)?;
+                }
+                Ok(())
+            }
         }
     }
-}
 
-// The input of the one step and the link to it.
-fn one_link(steps: &[ProbeStep]) -> Option<(usize, ProbeLink)>
-    ensures { IfSome result (λ one. slice_get steps.now 0 ≡ Some (record { input = one.0; link = Some one.1 })) }
-{
-    match steps {
-        [step] => match step.link {
-            None => None,
-            Some(link) => Some((step.input, link)),
-        },
-        _ => None,
+    // Whether one of these links decides alone which tuples join.
+    fn links_decide(&self, links: &[ProbeLink]) -> bool
+        ensures { result ≡ true → LinksDecide self.now.classes.now self.now.own links.now }
+    {
+        let other = 1usize.saturating_sub(self.own);
+        match links {
+            [link] => two_decide(self.classes, self.own, other, *link),
+            _ => false,
+        }
     }
 }
 

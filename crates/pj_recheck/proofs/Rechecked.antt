@@ -16,7 +16,7 @@ use Rattle.pj_recheck.specs.declared.routes.BackRoute.{BackRoute}
 use Rattle.pj_recheck.specs.declared.routes.InputRoutes.{InputRoutes}
 use Rattle.pj_rows.specs.Ranges.{HoldTrue}
 use Rattle.pj_rows.specs.Tuples.{AreWide, state_at}
-use Rattle.pj_recheck.specs.Recheck.{AreLeads, AreRoutes, BackLeaves, BacksFit, BacksLeave, HasKey, HasLimit, IsWay, LeadTo, LeadsFit, LeadsIn, LeavesBackOwner, LeavesOwner, RouteFinds, RouteFits, RouteLeaves, RoutesFit, RoutesLeave, StopFinds, StopFits, StopsFind, StopsFit, WayFits, WayLeads, entry_on, routes_at}
+use Rattle.pj_recheck.specs.Recheck.{AreKeyed, AreLeads, AreRoutes, BackLeaves, BacksFit, BacksLeave, HasKey, HasLimit, IsWay, LeadTo, LeadsFit, LeadsIn, LeavesBackOwner, LeavesOwner, RouteFinds, RouteFits, RouteLeaves, RoutesFit, RoutesLeave, StopFinds, StopFits, StopsFind, StopsFit, WayFits, WayLeads, entry_on, routes_at}
 use Rattle.pj_recheck.specs.Watching.{AreAside, AreFewer, AreLeft, AreRoused, CoverageView, IsAsideAt, IsFewer, IsKey, IsLeftBy, IsUnmet, LeadsBack, Limits, PathView, PunctView, SideView, asker, is_wild_elsewhere, side_at, watches_at}
 use Rattle.pj_recheck.specs.declared.marks.DueRechecks.{DueRechecks}
 use Rattle.pj_rows.specs.Finding.{has_match}
@@ -39,10 +39,24 @@ limit_there c side leads column q are indexed (lead, is-in, same, there) = (
       (limits_are side c (record { input = c.input; column = lead.asked }) lead.column q refl (are lead is-in).marked (are lead is-in).first there),
 )
 
--- the column that a lead tells is indexed
-pub key_indexed : (row_states : List StateView) (input : ℕ) (state : StateView) (leads lent : List Lead) (patterns : List Pattern) (column : ℕ) (v : Value) → LeadsFit row_states input leads → state ≡ state_at row_states input → lent ≡ leads → HasKey lent patterns column v → In column state.columns
-key_indexed row_states input state leads lent patterns column v fit own same (lead, is-in, told, there) =
-    subst (λ k. In k state.columns) told (subst (λ (s : StateView). In lead.column s.columns) (sym own) (fit lead (subst (λ (ls : List Lead). In lead ls) same is-in)))
+-- the columns that leads tell are indexed
+pub leads_indexed : (row_states : List StateView) (input : ℕ) (state : StateView) (leads lent : List Lead) → LeadsFit row_states input leads → state ≡ state_at row_states input → lent ≡ leads → LeadsIn state.columns lent
+leads_indexed row_states input state leads lent fit own same lead h = subst (λ (s : StateView). In lead.column s.columns) (sym own) (fit lead (subst (λ (ls : List Lead). In lead ls) same h))
+
+-- what one of the leads tells they tell
+keyed-among : (state : StateView) (leads : List Lead) (patterns : List Pattern) (lead : Lead) (tickets : List ℕ) → In lead leads → AreKeyed state (lead ∷ []) patterns tickets → AreKeyed state leads patterns tickets
+keyed-among state leads patterns lead tickets there (column, value, (l, inl e, is, key), all) = (column, value, (l, subst (λ (k : Lead). In k leads) e there, is, key), all)
+keyed-among state leads patterns lead tickets there (column, value, (l, inr n, is, key), all) = absurd n
+
+-- the tickets that a lead more tells, or those before
+pub keyed_more : {A : Type 0} (tickets : A → List ℕ) (state : StateView) (leads : List Lead) (patterns : List Pattern) (lead : Lead) (before now after : Option A) → In lead leads → IfSome before (λ a. AreKeyed state leads patterns (tickets a)) → IfSome now (λ a. AreKeyed state (lead ∷ []) patterns (tickets a))
+    → (after ≡ before) ⊎ (after ≡ now) → IfSome after (λ a. AreKeyed state leads patterns (tickets a))
+keyed_more {A} tickets state leads patterns lead before now after there are told (inl same) = subst (λ (o : Option A). IfSome o (λ a. AreKeyed state leads patterns (tickets a))) (sym same) are
+keyed_more {A} tickets state leads patterns lead before now after there are told (inr same) = subst (λ (o : Option A). IfSome o (λ a. AreKeyed state leads patterns (tickets a))) (sym same) (more now told)
+  where
+    more : (o : Option A) → IfSome o (λ a. AreKeyed state (lead ∷ []) patterns (tickets a)) → IfSome o (λ a. AreKeyed state leads patterns (tickets a))
+    more None keyed = tt
+    more (Some a) keyed = keyed-among state leads patterns lead (tickets a) there keyed
 
 pub limit_indexed : (row_states : List StateView) (input : ℕ) (state : StateView) (leads lent : List Lead) (patterns : List Pattern) (column : ℕ) (q : Pattern) → LeadsFit row_states input leads → state ≡ state_at row_states input → lent ≡ leads → HasLimit lent patterns column q → In column state.columns
 limit_indexed row_states input state leads lent patterns column q fit own same (lead, is-in, told, there) =
@@ -72,10 +86,10 @@ stop_limit row_states stop patterns column q tickets found way wide fits has the
     (subst (λ (ss : List StateView). HoldTrue (has_match column q) (state_at ss stop.input).rows tickets) (sym same) are)
     (leads path is.at same (subst (λ (o : Option Way). IfSome o (IsWay (asker path) is.at)) there is.way))
 
-pub stop_by_key : (row_states : List StateView) (stop : Stop) (patterns : List Pattern) (state : StateView) (lent : List Lead) (column : ℕ) (v : Value) (tickets : List ℕ) (found : Option (List ℕ)) (way : Way) → AreWide row_states → StopFits row_states stop → state ≡ state_at row_states stop.input
-    → lent ≡ stop.leads → HasKey lent patterns column v → stop.way ≡ Some way → tickets ≡ tickets_of (rows_with column v state.rows) → IfSome found (WayLeads row_states way tickets) → IfSome found (StopFinds row_states stop patterns)
-stop_by_key row_states stop patterns state lent column v tickets None way wide fits own same has there are leads = tt
-stop_by_key row_states stop patterns state lent column v tickets (Some found) way wide fits own same has there are leads =
+pub stop_by_key : (row_states : List StateView) (stop : Stop) (patterns : List Pattern) (state : StateView) (lent : List Lead) (tickets : List ℕ) (found : Option (List ℕ)) (way : Way) → AreWide row_states → StopFits row_states stop → state ≡ state_at row_states stop.input
+    → lent ≡ stop.leads → AreKeyed state lent patterns tickets → stop.way ≡ Some way → IfSome found (WayLeads row_states way tickets) → IfSome found (StopFinds row_states stop patterns)
+stop_by_key row_states stop patterns state lent tickets None way wide fits own same keyed there leads = tt
+stop_by_key row_states stop patterns state lent tickets (Some found) way wide fits own same (column, v, has, are) there leads =
     stop_key row_states stop patterns column v tickets found way wide fits (subst (λ (ls : List Lead). HasKey ls patterns column v) same has) there (are ∙ ap (λ (s : StateView). tickets_of (rows_with column v s.rows)) own) leads
 
 pub stop_by_limit : (row_states : List StateView) (stop : Stop) (patterns : List Pattern) (state : StateView) (lent : List Lead) (column : ℕ) (q : Pattern) (tickets passed : List ℕ) (found : Option (List ℕ)) (way : Way) → AreWide row_states → StopFits row_states stop → state ≡ state_at row_states stop.input
@@ -93,9 +107,9 @@ same-some e = cc
 own-leads : (path : PathView) (tickets : List ℕ) → LeadsBack path 0 tickets tickets
 own-leads path tickets x rows asks along y at h = subst (λ (z : TupleAt). In z.ticket tickets) (same-some at) h
 
-pub own_by_key : (row_states : List StateView) (route : RecheckRoute) (patterns : List Pattern) (state : StateView) (lent : List Lead) (column : ℕ) (v : Value) (tickets : List ℕ) → AreWide row_states → RouteFits row_states route → state ≡ state_at row_states route.owner → lent ≡ route.own → HasKey lent patterns column v
+own-by-key : (row_states : List StateView) (route : RecheckRoute) (patterns : List Pattern) (state : StateView) (lent : List Lead) (column : ℕ) (v : Value) (tickets : List ℕ) → AreWide row_states → RouteFits row_states route → state ≡ state_at row_states route.owner → lent ≡ route.own → HasKey lent patterns column v
     → tickets ≡ tickets_of (rows_with column v state.rows) → RouteFinds row_states route patterns tickets
-own_by_key row_states route patterns state lent column v tickets wide fits own lend has are path entry c same pats of is =
+own-by-key row_states route patterns state lent column v tickets wide fits own lend has are path entry c same pats of is =
     found_by_key path entry c 0 (side_at path.row_states path.input) column v tickets tickets (subst (λ (ss : List StateView). AreWide ss) (sym same) wide) of (omega arith) refl refl
     (key_there c (side_at path.row_states path.input) route.own column v
     (subst (λ (ks : List (List ClassCol)). AreLeads ks (entry_on c) path.input route.own) (sym of.classes) is.own)
@@ -106,6 +120,12 @@ own_by_key row_states route patterns state lent column v tickets wide fits own l
   where
     here : state_at path.row_states path.input ≡ state_at row_states route.owner
     here = ap₂ (λ (ss : List StateView) k. state_at ss k) same (sym is.owner)
+
+-- the same of what a call answers
+pub own_by_key : {A : Type 0} (tickets : A → List ℕ) (row_states : List StateView) (route : RecheckRoute) (patterns : List Pattern) (state : StateView) (lent : List Lead) (found : Option A) → AreWide row_states → RouteFits row_states route → state ≡ state_at row_states route.owner → lent ≡ route.own
+    → IfSome found (λ a. AreKeyed state lent patterns (tickets a)) → IfSome found (λ a. RouteFinds row_states route patterns (tickets a))
+own_by_key tickets row_states route patterns state lent None wide fits own lend keyed = tt
+own_by_key tickets row_states route patterns state lent (Some a) wide fits own lend (column, v, has, are) = own-by-key row_states route patterns state lent column v (tickets a) wide fits own lend has are
 
 pub own_by_limit : (row_states : List StateView) (route : RecheckRoute) (patterns : List Pattern) (state : StateView) (lent : List Lead) (column : ℕ) (q : Pattern) (tickets : List ℕ) → AreWide row_states → RouteFits row_states route → state ≡ state_at row_states route.owner → lent ≡ route.own → HasLimit lent patterns column q
     → HoldTrue (has_match column q) state.rows tickets → RouteFinds row_states route patterns tickets

@@ -2,7 +2,7 @@
 use Rattle.std.specs.Prelude.{ℕ, ◌<◌, ◌≤◌, ◌≡◌, Bool, true, List, [], ◌∷◌, Some, IfSome, length, slice_get, slice_index_or}
 use Rattle.pj_value.specs.declared.values.Value.{Value}
 use Rattle.pj_pattern.specs.declared.pattern.Form.TheVariants.{Constant}
-use Rattle.pj_state.specs.States.{StateView}
+use Rattle.pj_state.specs.States.{StateView, rows_with, tickets_of}
 use Rattle.pj_cover.specs.Asking.{first_class}
 use Rattle.pj_events.specs.Patterns.{Pattern}
 use Rattle.pj_events.specs.Join.{CertEntry, ClassCol, In, JoinData, cert_of, inputs}
@@ -108,6 +108,10 @@ RoutesFit row_states routes = (route : RecheckRoute) → In route routes → Rou
 -- a lead's column of the punctuation has this constant
 abbrev pub HasKey : List Lead → List Pattern → ℕ → Value → Type 0
 HasKey leads patterns column value = (lead : Lead) × In lead leads × (lead.column ≡ column) × (slice_get patterns lead.asked ≡ Some (Constant value))
+
+-- these are the tickets of the rows that have a constant of the punctuation in a lead's column
+abbrev pub AreKeyed : StateView → List Lead → List Pattern → List ℕ → Type 0
+AreKeyed state leads patterns tickets = (column : ℕ) × (value : Value) × HasKey leads patterns column value × (tickets ≡ tickets_of (rows_with column value state.rows))
 
 -- a lead's column of the punctuation has this pattern
 abbrev pub HasLimit : List Lead → List Pattern → ℕ → Pattern → Type 0

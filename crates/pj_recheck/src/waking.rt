@@ -1,8 +1,8 @@
 // Which stored rows a punctuation marks.
-ghost use Rattle.std.specs.Prelude.{◌≡◌, ◌<◌, length, slice_get, Some, IfOk, IfSome, OnOk};
-ghost use Rattle.pj_pattern.specs.declared.pattern.Form.TheVariants.{Constant};
+ghost use Rattle.std.specs.Prelude.{◌≡◌, ◌⊎◌, ◌<◌, ◌∷◌, [], length, slice_get, Some, IfOk, IfSome, OnOk};
+ghost use Rattle.pj_value.specs.Lists.{In};
 ghost use Rattle.pj_rows.specs.Tuples.{AreWide};
-ghost use Rattle.pj_recheck.specs.Recheck.{HasKey, HasLimit, LeavesOwner, RouteFinds, RouteFits, RouteLeaves, RoutesFit, RoutesLeave, StopFinds, StopFits, StopsFit, StopsFind};
+ghost use Rattle.pj_recheck.specs.Recheck.{AreKeyed, HasLimit, LeadsIn, LeavesOwner, RouteFinds, RouteFits, RouteLeaves, RoutesFit, RoutesLeave, StopFinds, StopFits, StopsFit, StopsFind};
 ghost use Rattle.pj_recheck.specs.Watching.{AreFewer, IsFewer};
 
 use crate::due_rechecks::{Limit, is_wild_elsewhere, matching_tickets};
@@ -10,39 +10,52 @@ use crate::marks::DueRechecks;
 use crate::reaching::{owners, rows_of};
 use crate::routes::{Lead, RecheckRoute, Stop};
 use pj_pattern::Punct;
-use pj_rows::Lookup;
 use pj_state::State;
 use pj_value::{List, NoMemory};
 use std::alloc::Global;
 
-// The lead's column of rows, and the constant of the punctuation that leads there.
-fn key_by<'a>(lead: Lead, punct: &'a Punct) -> Option<Lookup<'a>>
-    ensures column { IfSome result (λ key. key.column ≡ lead.column) }
-    ensures value { IfSome result (λ key. slice_get punct.now lead.asked ≡ Some (Constant key.value.now)) }
+// The tickets of the rows that have the constant of the punctuation in the lead's column.
+fn keyed_by<'a>(state: &'a State, lead: Lead, punct: &Punct) -> Option<&'a [u64]>
+    requires { In lead.column state.now.columns }
+    ensures { IfSome result (λ tickets. AreKeyed state.now (lead ∷ []) punct.now tickets.now) }
 {
     if lead.asked as usize >= punct.len() {
         return None;
     }
     match punct.at(lead.asked as usize).as_constant() {
         None => None,
-        Some(value) => Some(Lookup {
-            column: lead.column,
-            value,
-        }),
+        Some(value) => Some(state.tickets(lead.column, value)),
     }
 }
 
-// The same of the first lead for which there is one.
-fn key_of<'a>(leads: &[Lead], punct: &'a Punct) -> Option<Lookup<'a>>
-    ensures { IfSome result (λ key. HasKey leads.now punct.now key.column key.value.now) }
+// Of two lists of tickets the shorter; the other one where one is missing.
+fn shorter<'a>(first: Option<&'a [u64]>, second: Option<&'a [u64]>) -> Option<&'a [u64]>
+    ensures { (result ≡ first.entry) ⊎ (result ≡ second.entry) }
 {
-    for lead in leads {
-        match key_by(*lead, punct) {
-            Some(key) => return Some(key),
-            None => {}
-        }
+    match first {
+        None => second,
+        Some(tickets) => match second {
+            None => first,
+            Some(others) => {
+                if others.len() < tickets.len() {
+                    return second;
+                }
+                first
+            }
+        },
     }
-    None
+}
+
+// The same as by one lead, of these leads by that which leads to the fewest rows.
+fn fewest_keyed<'a>(state: &'a State, leads: &[Lead], punct: &Punct) -> Option<&'a [u64]>
+    requires { LeadsIn state.now.columns leads.now }
+    ensures { IfSome result (λ tickets. AreKeyed state.now leads.now punct.now tickets.now) }
+{
+    let mut found = None;
+    for at in 0..leads.len() {
+        found = shorter(found, keyed_by(state, leads[at], punct));
+    }
+    found
 }
 
 // The lead's column of rows, and the pattern of the punctuation that leads there, where that is no wildcard.
@@ -90,17 +103,12 @@ fn by_key(
 {
     match rows_of(row_states, stop.input) {
         None => Ok(None),
-        Some(state) => match key_of(stop.leads.as_slice(), punct) {
+        Some(state) => match &stop.way {
             None => Ok(None),
-            Some(key) => match &stop.way {
+            Some(way) => match fewest_keyed(state, stop.leads.as_slice(), punct) {
                 None => Ok(None),
-                Some(way) => {
-                    let found = owners(
-                        alloc,
-                        row_states,
-                        way,
-                        state.tickets(key.column, key.value),
-                    )?;
+                Some(tickets) => {
+                    let found = owners(alloc, row_states, way, tickets)?;
                     Ok(found)
                 }
             },
@@ -143,10 +151,7 @@ fn own_rows<'a>(row_states: &'a [State], route: &RecheckRoute, punct: &Punct) ->
 {
     match rows_of(row_states, route.owner) {
         None => None,
-        Some(state) => match key_of(route.own.as_slice(), punct) {
-            None => None,
-            Some(key) => Some(state.tickets(key.column, key.value)),
-        },
+        Some(state) => fewest_keyed(state, route.own.as_slice(), punct),
     }
 }
 

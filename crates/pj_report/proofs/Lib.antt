@@ -6,5 +6,6 @@ pub mod NodeNames
 pub mod Sorting
 pub mod LineLists
 pub mod Forms
+pub mod Firsts
 pub mod Summing
 pub mod Exact

@@ -1,3 +1,4 @@
+pub mod Firsts
 pub mod Forms
 pub mod Laws
 pub mod Report

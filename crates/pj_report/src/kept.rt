@@ -1,8 +1,9 @@
 // Lines that are kept until a run's end.
-ghost use Rattle.std.specs.Prelude.{◌≡◌, ◌≤◌, ◌++◌, ◌∷◌, [], List, IsTrue, OnOk, Err};
+ghost use Rattle.std.specs.Prelude.{◌≡◌, ◌≤◌, ◌++◌, ◌∷◌, [], List, IsTrue, OnOk, OnErr, Err};
 ghost use Rattle.pj_pattern.specs.declared.element.Element.{Element};
 ghost use Rattle.pj_io.specs.Causes.{Rose};
 ghost use Rattle.pj_events.specs.Outcomes.{elements_out};
+ghost use Rattle.pj_report.specs.Firsts.{CountsMore, KeepsMore, OfFirst};
 ghost use Rattle.pj_report.specs.Results.{counts_of};
 ghost use Rattle.pj_report.specs.Sorted.{row_lines, punct_lines, sorted_lines};
 ghost use Rattle.pj_report.specs.Written.{WritesBy, write_cut};
@@ -36,11 +37,12 @@ impl KeptLines {
     }
 
     /// Keeps the canonical line of each element that was handed out, and counts the elements as `write_outs` does. The notes of
-    /// rows that were removed are not kept. After `NoMemory` what is kept and the counts may be anything.
+    /// rows that were removed are not kept. After `NoMemory` the first of those handed out are kept and counted, and no other.
     pub fn keep(&mut self, alloc: Global, outs: &[Out], counts: &mut Counts) -> Result<(), NoMemory>
         ensures rows { OnOk result (self.new.rows ≡ self.old.rows ++ row_lines (elements_out outs.now)) }
         ensures puncts { OnOk result (self.new.puncts ≡ self.old.puncts ++ punct_lines (elements_out outs.now)) }
         ensures counted { OnOk result ((before : List Element) → counts.old ≡ counts_of before → counts.new ≡ counts_of (before ++ elements_out outs.now)) }
+        ensures refused { OnErr result (OfFirst outs.now (λ es. KeepsMore self.old self.new es × CountsMore counts.old counts.new es)) }
     {
         for handed in outs {
             self.keep_one(alloc, handed)?;
@@ -52,6 +54,7 @@ impl KeptLines {
     fn keep_one(&mut self, alloc: Global, handed: &Out) -> Result<(), NoMemory>
         ensures rows { OnOk result (self.new.rows ≡ self.old.rows ++ row_lines (elements_out (handed.now ∷ []))) }
         ensures puncts { OnOk result (self.new.puncts ≡ self.old.puncts ++ punct_lines (elements_out (handed.now ∷ []))) }
+        ensures refused { OnErr result (self.new ≡ self.old) }
     {
         match handed {
             Out::Tuple(row) => self.rows.push_row(alloc, row)?,

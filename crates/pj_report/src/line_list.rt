@@ -41,9 +41,10 @@ impl LineList {
         }
     }
 
-    // Puts the row's canonical line at the end.
+    // Puts the row's canonical line at the end; on a refusal the lines are as they were.
     pub(crate) fn push_row(&mut self, alloc: Global, row: &Row) -> Result<(), NoMemory>
-        ensures { OnOk result (self.new ≡ self.old ++ fed_row row.now ∷ []) }
+        ensures ok { OnOk result (self.new ≡ self.old ++ fed_row row.now ∷ []) }
+        ensures err { OnErr result (self.new ≡ self.old) }
     {
         let start = self.bytes.len();
         append_row(alloc, row, &mut self.bytes)?;
@@ -51,9 +52,10 @@ impl LineList {
         Ok(())
     }
 
-    // Puts the punctuation's canonical line at the end.
+    // Puts the punctuation's canonical line at the end; on a refusal the lines are as they were.
     pub(crate) fn push_punct(&mut self, alloc: Global, punct: &Punct) -> Result<(), NoMemory>
-        ensures { OnOk result (self.new ≡ self.old ++ fed_punct punct.now ∷ []) }
+        ensures ok { OnOk result (self.new ≡ self.old ++ fed_punct punct.now ∷ []) }
+        ensures err { OnErr result (self.new ≡ self.old) }
     {
         let start = self.bytes.len();
         append_punct(alloc, punct, &mut self.bytes)?;

@@ -1,9 +1,10 @@
 // The lines of what a core hands out.
-ghost use Rattle.std.specs.Prelude.{◌≡◌, ◌≤◌, ◌++◌, ◌∷◌, [], List, length, IsTrue, OnOk, Err};
+ghost use Rattle.std.specs.Prelude.{◌≡◌, ◌≤◌, ◌++◌, ◌∷◌, [], List, length, IsTrue, OnOk, OnErr, Err};
 ghost use Rattle.pj_pattern.specs.declared.element.Element.{Element};
 ghost use Rattle.pj_pattern.specs.Elements.{rows_of, puncts_of};
 ghost use Rattle.pj_io.specs.Causes.{Rose};
 ghost use Rattle.pj_events.specs.Outcomes.{elements_out};
+ghost use Rattle.pj_report.specs.Firsts.{CountsMore, OfFirst};
 ghost use Rattle.pj_report.specs.Results.{out_line, out_lines, counts_of};
 ghost use Rattle.pj_report.specs.Written.{WritesBy, write_cut};
 
@@ -25,8 +26,8 @@ pub struct Counts {
 }
 
 /// Writes the lines of what was handed out: of each element its canonical line, and of each row that a sweep removed a note
-/// with the names that the plan gives the join and the node that feeds the input. Counts the elements. `text` is where lines are
-/// made.
+/// with the names that the plan gives the join and the node that feeds the input. Counts the elements; where it stops, those whose
+/// lines were written before. `text` is where lines are made.
 #[inline(always)]
 pub fn write_outs<K: Sink>(
     alloc: Global,
@@ -39,6 +40,7 @@ pub fn write_outs<K: Sink>(
     ensures told { IsTrue (K.state out.new).told → IsTrue (K.state out.old).told }
     ensures lines { IsTrue (K.state out.new).told → WritesBy write_cut (out_lines plan.now.nodes outs.now) (K.state out.old) (K.state out.new) result }
     ensures counted { OnOk result ((before : List Element) → counts.old ≡ counts_of before → counts.new ≡ counts_of (before ++ elements_out outs.now)) }
+    ensures refused { OnErr result (OfFirst outs.now (CountsMore counts.old counts.new)) }
     ensures later { (K.state out.old).faults ≤ (K.state out.new).faults }
     ensures fault { result ≡ Err WriteStop.Failed → Rose (K.state out.old).faults (K.state out.new).faults }
 {

@@ -1,7 +1,8 @@
 // What becomes of what a run hands out.
-ghost use Rattle.std.specs.Prelude.{◌≡◌, ◌≤◌, [], IsTrue, OnOk, Err};
+ghost use Rattle.std.specs.Prelude.{◌≡◌, ◌≤◌, [], IsTrue, OnOk, OnErr, Err};
 ghost use Rattle.pj_io.specs.Causes.{Rose};
 ghost use Rattle.pj_events.specs.Outcomes.{elements_out};
+ghost use Rattle.pj_report.specs.Firsts.{OfFirst};
 ghost use Rattle.pj_report.specs.Forms.{shown, taken_so_far, TakesMore, WritesWithheld};
 ghost use Rattle.pj_report.specs.Written.{WritesBy, write_cut};
 
@@ -70,7 +71,7 @@ impl ResultWriter {
     }
 
     /// Takes what was handed out, and writes the lines of it that are written as they come, each by a `write_all` of its own.
-    /// `text` is where lines are made.
+    /// On a refusal it has taken the first of it, and no other. `text` is where lines are made.
     #[inline(always)]
     pub fn take<K: Sink>(
         &mut self,
@@ -83,6 +84,7 @@ impl ResultWriter {
         ensures told { IsTrue (K.state out.new).told → IsTrue (K.state out.old).told }
         ensures lines { IsTrue (K.state out.new).told → WritesBy write_cut (shown self.old.form plan.now.nodes outs.now) (K.state out.old) (K.state out.new) result }
         ensures taken { OnOk result (TakesMore self.old self.new (elements_out outs.now)) }
+        ensures refused { OnErr result (OfFirst outs.now (TakesMore self.old self.new)) }
         ensures form { self.new.form ≡ self.old.form }
         ensures later { (K.state out.old).faults ≤ (K.state out.new).faults }
         ensures fault { result ≡ Err WriteStop.Failed → Rose (K.state out.old).faults (K.state out.new).faults }

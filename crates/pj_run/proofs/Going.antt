@@ -35,10 +35,12 @@ use Rattle.pj_feed.specs.Feeds.{FeedState, AllTold, AreFeeds, AreSameFeeds, acce
 use Rattle.pj_feed.proofs.AllFeeds.{IsOneOf, accepted_of_feed, bytes_of_feed, feeds_long, files_still, left_tagged, one_of, same_at, tagged_parts, told_at, told_still}
 use Rattle.pj_intake.specs.declared.intake.IntakeStop.TheVariants.{ReadFault as IntakeFault, ByteLimit, NoMemory as OutOfMemory}
 use Rattle.pj_report.specs.declared.writer.ResultWriter.{ResultWriter}
+use Rattle.pj_report.specs.Firsts.{OfFirst}
 use Rattle.pj_report.specs.Forms.{shown, taken_so_far}
 use Rattle.pj_report.specs.Written.{anywhere, flat, Cut, FrontOf, Leaves}
 use Rattle.pj_report.proofs.Forms.{shown-append}
 use Rattle.pj_report.proofs.LinesWritten.{first_written, stop_among, stop_then, written_then}
+use Rattle.pj_run.specs.declared.checking.AcceptedRows.{AcceptedRows}
 use Rattle.pj_run.specs.declared.stops.FeedStop.{FeedStop}
 use Rattle.pj_run.specs.declared.stops.FeedWhy.{FeedWhy}
 use Rattle.pj_run.specs.declared.stops.FeedWhy.TheVariants.{Intake, WriteFailed as FlushFailed}
@@ -47,13 +49,14 @@ use Rattle.pj_run.specs.declared.stops.TurnStop.TheVariants.{Limit as TurnLimit,
 use Rattle.pj_run.specs.Ends.{EndsAtLimit, EndsBefore, lines_until}
 use Rattle.pj_run.specs.Feeding.{FeedEnds, StopsIn}
 use Rattle.pj_run.specs.Jobs.{Job}
-use Rattle.pj_run.specs.Runs.{plan_run, run_nodes}
+use Rattle.pj_run.specs.Refused.{OfFront, StandsUpTo, TurnLeaves}
+use Rattle.pj_run.specs.Runs.{outs_by, plan_run, run_nodes}
 use Rattle.pj_run.specs.Stops.{of_turn, stop_at}
 use Rattle.pj_run.specs.Turning.{BreaksOff, CutEnd, CutsTurn, EndsTurn, TurnDone, TurnStops, lines_of, turn_outs}
 use Rattle.pj_run.proofs.Accepting.{count-streams, schema-is}
 use Rattle.pj_run.proofs.Arrivals.{arrived-is, brought-left, elements-turns}
 use Rattle.pj_run.proofs.Running.{reached}
-use Rattle.pj_run.specs.Goes.{CoreCause, HasMade, RunStart, StopCause, StopLeaves, whole_of}
+use Rattle.pj_run.specs.Goes.{CoreCause, HasKept, HasMade, RunStart, StopCause, StopLeaves, whole_of}
 
 -- the lines that are written of what a history hands out
 abbrev pub shown_until : Job → List Entry → List (List ℕ)
@@ -143,6 +146,35 @@ module _ (run : RunStart) (history : List Entry) (core : CoreState) (t : Turn) (
         ∙ ap (taken_so_far job.form) (ap (λ (es : List Out). elements_out (handed_out job.trace (run_nodes job) history) ++ elements_out es) (done.makes.hands history made.stands may_follow ∙ ap (λ (xs : List Out). xs ++ turn_outs core history t) drained)
         ∙ (sym (elements-append (handed_out job.trace (run_nodes job) history) (turn_outs core history t)) ∙ ap elements_out (sym outs-are)));
   }
+
+  -- a turn that was refused
+  pub turn_front : (core' : CoreState) (results' : ResultWriter) → TurnLeaves core core' t results results'
+      → OfFront (whole_of run) (λ front. StandsUpTo core' front × OfFirst (outs_by job front) (λ es. results' ≡ taken_so_far job.form es))
+  turn_front core' results' leaves =
+      let f = leaves history made.stands may_follow in
+      let had : List Out = handed_out job.trace (run_nodes job) history in
+      let others : List Entry = turns_entries true (nodes_from nodes here) left in
+      record {
+        front = history ++ f.front;
+        others = f.others ++ others;
+        all = append_assoc history f.front (f.others ++ others)
+            ∙ (ap (λ (es : List Entry). history ++ es) (sym (append_assoc f.front f.others others) ∙ ap (λ (es : List Entry). es ++ others) f.all)
+            ∙ (sym (append_assoc history behind others) ∙ parts));
+        so = (
+          f.so.0,
+          record {
+            first = had ++ f.so.1.first;
+            others = f.so.1.others;
+            all = append_assoc had f.so.1.first f.so.1.others
+                ∙ (ap (λ (os : List Out). had ++ os) f.so.1.all
+                ∙ (ap (λ (p : RunPlan). had ++ handed_out p.trace (nodes_from (nodes_of p) history) f.front) plan ∙ sym (outputs-append job.trace (run_nodes job) history f.front)));
+            so = f.so.1.so job.form (elements_out had) made.taken ∙ ap (taken_so_far job.form) (sym (elements-append had f.so.1.first));
+          },
+        );
+      }
+
+  pub kept_front : (accepted : AcceptedRows) → HasKept run (history ++ behind) accepted → OfFront (whole_of run) (λ front. HasKept run front accepted)
+  kept_front accepted kept = record { front = history ++ behind; others = turns_entries true (nodes_from nodes here) left; all = parts; so = kept }
 
   -- a turn that brought one element beyond the limit
   reached_at : (node : ℕ) (off : BreaksOff core history t node) → (r : ReachesLimit job.limit (run_nodes job) (whole_of run) node) × (r.front ≡ history ++ off.front)

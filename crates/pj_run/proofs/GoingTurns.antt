@@ -1,5 +1,5 @@
 -- The turns of a run that has gone so far.
-use Rattle.std.proofs.Common.{◌≡◌, ◌≤◌, ℕ, ◌<◌, true, List, [], ◌∷◌, ◌++◌, length, map, get_or, Some, IsTrue, ap, sym, ◌∙◌, append-nil, subst, arith}
+use Rattle.std.proofs.Common.{◌≡◌, ◌≤◌, ℕ, ◌<◌, true, List, [], ◌∷◌, ◌++◌, length, map, get_or, None, Some, IsTrue, ap, sym, ◌∙◌, append-nil, subst, arith}
 use Rattle.std.proofs.lemmas.List.{get_or-map, get_or_default, length-map, same_lists}
 use Rattle.pj_value.specs.declared.values.Value.{Value}
 use Rattle.pj_io.specs.Causes.{Rose}
@@ -13,6 +13,7 @@ use Rattle.pj_pattern.proofs.Elements.{rows_of-append}
 use Rattle.pj_plan.specs.declared.node.PlanNode.{PlanNode}
 use Rattle.pj_plan.specs.Nodes.{stream_columns, streams_in}
 use Rattle.pj_events.specs.declared.events.Entry.{Entry}
+use Rattle.pj_events.specs.declared.events.Out.{Out}
 use Rattle.pj_events.specs.declared.events.Stop.{Stop}
 use Rattle.pj_events.specs.History.{nodes_from, streams_of}
 use Rattle.pj_events.specs.OneThread.{Turn, arrival_of, turns_entries}
@@ -40,15 +41,17 @@ use Rattle.pj_run.specs.Cuts.{run_cut, turn_cut}
 use Rattle.pj_run.specs.Ends.{lines_until}
 use Rattle.pj_run.specs.Feeding.{StopsIn}
 use Rattle.pj_run.specs.Outcome.{AreAccepted}
+use Rattle.pj_run.specs.Refused.{RunLeaves, TurnLeaves}
 use Rattle.pj_run.specs.Runs.{accepted_rows, run_nodes}
 use Rattle.pj_run.specs.Stops.{of_feed, of_turn}
 use Rattle.pj_run.specs.Turning.{TurnDone, TurnStops, turn_outs}
 use Rattle.pj_run.proofs.Accepting.{count-accepted, count-streams, schema-is}
 use Rattle.pj_run.proofs.Carried.{turn_cut_same}
 use Rattle.pj_run.proofs.Keeping.{keeps_more, there_of}
+use Rattle.pj_run.proofs.Refused.{stands_on}
 use Rattle.pj_run.proofs.Running.{turn_of_feeds}
 use Rattle.pj_run.specs.Goes.{BringsAll, EndsRun, HasKept, HasLists, HasMade, IsGoing, RunStart, StopCause, StopLeaves, whole_of}
-use Rattle.pj_run.proofs.Going.{feed_leaves, feed_why, lines_so_far, made_next, may_follow, shown_until, turn_leaves, turn_lines, turn_made, turn_stopped, turn_why}
+use Rattle.pj_run.proofs.Going.{feed_leaves, feed_why, kept_front, lines_so_far, made_next, may_follow, shown_until, turn_front, turn_leaves, turn_lines, turn_made, turn_stopped, turn_why}
 use Rattle.pj_events.specs.Limits.{StaysWithin}
 
 -- the streams of a sound plan are few
@@ -116,6 +119,14 @@ module _ (run : RunStart) (history : List Entry) (core : CoreState) (feeds feeds
         ∙ ap (λ (ls : List (List ℕ)). run.sink.written ++ flat ls) (turn_lines run history core t left gathered.results going.plan going.limit (made told));
   }
 
+  -- it was refused
+  pub refused_turn : (core' : CoreState) (results' : ResultWriter) (accepted' : AcceptedRows) → TurnLeaves core core' t gathered.results results' → (AllTold run.feeds → HasKept run (history ++ turn_behind core history t) accepted')
+      → RunLeaves run core' (record { results = results'; accepted = accepted' })
+  refused_turn core' results' accepted' leaves kept told = (
+    turn_front run history core t left gathered.results going.plan going.limit (made told) core' results' leaves,
+    kept_front run history core t left gathered.results going.plan going.limit (made told) accepted' (kept told),
+  )
+
   -- it stopped
   pub turn_cut_lines : (stop : TurnStop) (new : SinkState) → (IsTrue new.told → IsTrue mid.told)
       → (IsTrue new.told → (h : List Entry) → StandsFor core h → MayFollow core h (arrival_of t) → Leaves (turn_cut stop) (shown gathered.results.form core.plan.nodes (turn_outs core h t)) mid.written new.written)
@@ -139,6 +150,34 @@ module _ (run : RunStart) (history : List Entry) (core : CoreState) (feeds feeds
   turn_causes stop new rose cut stops =
       turn_why stop run feeds' core history t mid new going.plan going.limit (let a = going.later in let b = nothing.later in omega (arith, a, b)) rose cut
       (λ told. (left, gathered.results, made told, stops-here stop new stops told))
+
+-- a refusal where no turn was begun
+pub refused_before : (run : RunStart) (history : List Entry) (core : CoreState) (feeds : List FeedState) (at : ℕ) (gathered : Gathered) (sink : SinkState) → IsGoing run history core feeds at gathered sink → core.kept.stop ≡ None → RunLeaves run core gathered
+refused_before run history core feeds at gathered sink going on told =
+    let rest : List Entry = turns_entries true (nodes_from (run_nodes run.job) history) (feeds_left (streams_in run.job.nodes) feeds at) in
+    let outs : List Out = handed_out run.job.trace (run_nodes run.job) history in (
+      record {
+        front = history;
+        others = rest;
+        all = (going.made told).rest;
+        so = (stands_on core history on (going.made told).stands, record { first = outs; others = []; all = append-nil outs; so = (going.made told).taken });
+      },
+      record { front = history; others = rest; all = (going.made told).rest; so = going.kept told },
+    )
+
+-- a refusal of the row that a turn brings
+pub refused_row : (run : RunStart) (history : List Entry) (core : CoreState) (feeds : List FeedState) (at : ℕ) (gathered : Gathered) (sink : SinkState) → IsGoing run history core feeds at gathered sink → core.kept.stop ≡ None
+    → (accepted' : AcceptedRows) → accepted'.asked ≡ gathered.accepted.asked → accepted'.lists.items ≡ gathered.accepted.lists.items → RunLeaves run core (record { results = gathered.results; accepted = accepted' })
+refused_row run history core feeds at gathered sink going on accepted' asked same told =
+    let left = refused_before run history core feeds at gathered sink going on told in (
+      left.0,
+      record {
+        front = left.1.front;
+        others = left.1.others;
+        all = left.1.all;
+        so = λ is s lt. ap (λ (lists : List (List (List Value))). get_or lists s []) same ∙ left.1.so (sym asked ∙ is) s lt;
+      },
+    )
 
 -- ---- a stream's turn that could not be made
 

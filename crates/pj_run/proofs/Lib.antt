@@ -19,3 +19,4 @@ pub mod TurnLaws
 pub mod WholeLaws
 pub mod Stepped
 pub mod StreamNodes
+pub mod Refused

@@ -5,6 +5,7 @@ pub mod Goes
 pub mod Jobs
 pub mod Outcome
 pub mod PlanNames
+pub mod Refused
 pub mod RunEnds
 pub mod Runs
 pub mod Turning

@@ -1,5 +1,5 @@
 // The rows that are kept for a check, and its line.
-ghost use Rattle.std.specs.Prelude.{◌≡◌, ◌≤◌, ◌<◌, true, length, if◌then◌else◌, IsTrue, IfOk, OnOk, Err};
+ghost use Rattle.std.specs.Prelude.{◌≡◌, ◌≤◌, ◌<◌, true, length, if◌then◌else◌, IsTrue, IfOk, OnErr, OnOk, Err};
 ghost use Rattle.pj_io.specs.Causes.{Rose};
 ghost use Rattle.pj_report.specs.Written.{WritesBy, write_cut};
 ghost use Rattle.pj_run.specs.Checking.{HoldsNone, IsThere, with_arrival, with_element};
@@ -36,12 +36,13 @@ impl AcceptedRows {
         Ok(AcceptedRows { asked, lists })
     }
 
-    /// Keeps the row that a turn brings, if it brings one and rows are asked for.
+    /// Keeps the row that a turn brings, if it brings one and rows are asked for. On a refusal the rows are as they were.
     pub fn keep(&mut self, alloc: Global, next: &Arrival) -> Result<(), NoMemory>
         requires there { self.old.asked ≡ true → IsThere next.now self.old.lists.items }
         ensures asked { self.new.asked ≡ self.old.asked }
         ensures many { length self.new.lists.items ≡ length self.old.lists.items }
         ensures kept { OnOk result (self.old.asked ≡ true → self.new.lists.items ≡ with_arrival next.now self.old.lists.items) }
+        ensures refused { OnErr result (self.new.lists.items ≡ self.old.lists.items) }
     {
         if !self.asked {
             return Ok(());
@@ -62,6 +63,7 @@ impl AcceptedRows {
         ensures asked { self.new.asked ≡ self.old.asked }
         ensures many { length self.new.lists.items ≡ length self.old.lists.items }
         ensures kept { OnOk result (self.new.lists.items ≡ with_element stream element.now self.old.lists.items) }
+        ensures refused { OnErr result (self.new.lists.items ≡ self.old.lists.items) }
     {
         match element {
             Element::Tuple(row) => {

@@ -1,5 +1,5 @@
 // The run of a plan over open feeds, and its report.
-ghost use Rattle.std.specs.Prelude.{◌≡◌, ◌≤◌, List, [], length, IsTrue, IfErr, IfOk, OnOk, Err};
+ghost use Rattle.std.specs.Prelude.{◌≡◌, ◌≤◌, List, [], length, IsTrue, IfErr, IfOk, OnErr, OnOk, Err};
 ghost use Rattle.pj_pattern.specs.declared.element.Element.{Element};
 ghost use Rattle.pj_plan.specs.Nodes.{streams_in};
 ghost use Rattle.pj_io.specs.Causes.{Rose};
@@ -8,6 +8,7 @@ ghost use Rattle.pj_feed.specs.Feeds.{AreFeeds, AreNew, AreSameFeeds, AllTold, A
 ghost use Rattle.pj_report.specs.declared.writer.Form.{Form};
 ghost use Rattle.pj_run.specs.Cuts.{run_cut};
 ghost use Rattle.pj_run.specs.Outcome.{Finishes, TurnsGather};
+ghost use Rattle.pj_run.specs.Refused.{OfFront, StandsUpTo};
 ghost use Rattle.pj_run.specs.RunEnds.{StoppedTurns, TurnsCause, TurnsWrite};
 ghost use Rattle.pj_run.specs.Runs.{IsNewCore, history_of, job_in, StaysInLimit};
 ghost use Rattle.pj_run.specs.Whole.{HasTaken, ReportsWhole, WritesWhole};
@@ -63,7 +64,8 @@ pub fn finish<K: Sink>(
 }
 
 /// Runs the plan of a new core on one thread over open feeds of its streams, and writes the lines of its outputs, which are handed
-/// on before a read. `text` is where lines are made.
+/// on before a read. After a refusal the core stands for a front of the run's history, with its stop behind that, if it stopped. `text`
+/// is where lines are made.
 pub fn run_streams<S: Source, K: Sink>(
     alloc: Global,
     writing: Writing,
@@ -85,6 +87,7 @@ pub fn run_streams<S: Source, K: Sink>(
     ensures ends { StoppedTurns (job_in writing core.old) feeds.old.feeds.items feeds.new.feeds.items (K.state out.old) (K.state out.new) result }
     ensures outcome { TurnsGather (job_in writing core.old) feeds.old.feeds.items feeds.new.feeds.items result }
     ensures stands { AllTold feeds.old.feeds.items → OnOk result (StandsFor core.new (history_of (job_in writing core.old) (files_of feeds.old.feeds.items))) }
+    ensures left { AllTold feeds.old.feeds.items → OnErr result (OfFront (history_of (job_in writing core.old) (files_of feeds.old.feeds.items)) (StandsUpTo core.new)) }
     ensures within { AllTold feeds.old.feeds.items → OnOk result (StaysInLimit (job_in writing core.old) (files_of feeds.old.feeds.items)) }
     ensures taken { OnOk result (AreAllTaken feeds.new.feeds.items) }
     ensures has_taken { IfOk result (λ gathered. HasTaken writing.form gathered.results) }

@@ -1,5 +1,5 @@
 // Turns of a core, and the lines of what they hand out.
-ghost use Rattle.std.specs.Prelude.{◌≡◌, ◌≤◌, [], None, IsTrue, IfErr, IfOk, OnOk, Err};
+ghost use Rattle.std.specs.Prelude.{◌≡◌, ◌≤◌, [], None, IsTrue, IfErr, IfOk, OnErr, OnOk, Err};
 ghost use Rattle.pj_plan.specs.Nodes.{streams_in};
 ghost use Rattle.pj_events.specs.declared.events.Stop.{Stop as CoreStop};
 ghost use Rattle.pj_io.specs.Causes.{Rose};
@@ -7,6 +7,7 @@ ghost use Rattle.pj_core.specs.Calls.{IsTurnRefused, MakesTurn};
 ghost use Rattle.pj_feed.specs.Feeds.{turn_in};
 ghost use Rattle.pj_run.specs.Stops.{end_of, of_core};
 ghost use Rattle.pj_run.specs.Cuts.{turn_cut};
+ghost use Rattle.pj_run.specs.Refused.{HandsOver, TurnLeaves};
 ghost use Rattle.pj_run.specs.PlanNames.{HasShortNames};
 ghost use Rattle.pj_run.specs.Whole.{WritesWhole};
 ghost use Rattle.pj_run.specs.Turning.{IsTurnOf, Turned, TurnDone, TurnStopsBehind, TurnWrites};
@@ -24,7 +25,8 @@ use std::alloc::Global;
 /// `text` is where lines are made.
 ///
 /// `Limit` comes where the turn brings one element beyond the limit of a node; exactly what was handed out before that is
-/// written first. Where that fails, `Cut` tells the stop that came before.
+/// written first. Where that fails, `Cut` tells the stop that came before. After a refusal the core stands for the entries of the turn
+/// that were made, with its stop behind them, if it stopped, and the writer has taken the first of what they hand out.
 pub fn take_turn<K: Sink>(
     alloc: Global,
     core: &mut Core,
@@ -41,6 +43,7 @@ pub fn take_turn<K: Sink>(
     ensures lines { TurnWrites results.old.form core.old (turn_in (streams_in core.old.plan.nodes) next) (K.state out.old) (K.state out.new) result }
     ensures whole { HasShortNames core.old.plan.nodes → WritesWhole turn_cut (K.state out.old) (K.state out.new) result }
     ensures done { OnOk result (TurnDone core.old core.new (turn_in (streams_in core.old.plan.nodes) next) results.old results.new) }
+    ensures left { OnErr result (TurnLeaves core.old core.new (turn_in (streams_in core.old.plan.nodes) next) results.old results.new) }
     ensures form { results.new.form ≡ results.old.form }
     ensures stops { IfErr result (λ stop. TurnStopsBehind stop results.old.form core.old (turn_in (streams_in core.old.plan.nodes) next) (K.state out.old) (K.state out.new)) }
     ensures later { (K.state out.old).faults ≤ (K.state out.new).faults }
@@ -82,6 +85,7 @@ fn turn_core(core: &mut Core, next: Arrival) -> Handed
     requires of { IsTurnOf (streams_in core.old.plan.nodes) (turn_in (streams_in core.old.plan.nodes) next) }
     ensures plan { core.new.plan ≡ core.old.plan }
     ensures turned { Turned core.old core.new (turn_in (streams_in core.old.plan.nodes) next) result.outs result.stop }
+    ensures over { HandsOver core.old core.new (turn_in (streams_in core.old.plan.nodes) next) result.outs }
 {
     match enter(core, next) {
         Ok(outs) => Handed { outs, stop: None },

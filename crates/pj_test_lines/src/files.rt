@@ -1,6 +1,9 @@
 // The adapters on real files, and each call that takes memory, once with ample memory.
+ghost use Rattle.std.specs.Prelude.{◌<◌};
+
 use pj_io::{
-    DiskFolder, Folder, MemFolder, MemSink, MemSource, StdSink, WholeStop, read_whole, write_all,
+    DiskFolder, Folder, MemFolder, MemSink, MemSource, Sink, StdSink, SteadySink, WholeStop,
+    read_whole, write_all,
 };
 use pj_value::{Bytes, NoMemory};
 use std::alloc::Global;
@@ -77,4 +80,39 @@ fn sinks_keep_what_is_written(rt: HostRuntime) {
     ] {
         assert_eq!(rt; is_written(rt.alloc(), fail, room, want), Ok(true));
     }
+}
+
+// A piece that is written, how many bytes of it are taken, and all that is kept then.
+type Write = (&'static [u8], usize, &'static [u8]);
+
+const PAST_THE_ROOM: &[Write] = &[
+    (b"abcde", 3, b"abc"),
+    (b"", 0, b"abc"),
+    (b"de", 2, b"abc"),
+    (b"d", 1, b"abc"),
+    (b"efgh", 3, b"abc"),
+];
+
+const TO_THE_ROOM: &[Write] = &[(b"abcd", 3, b"abc"), (b"d", 1, b"abcd"), (b"", 0, b"abcd")];
+
+const BYTE_BY_BYTE: &[Write] = &[(b"ab", 1, b"a"), (b"bc", 1, b"ab"), (b"c", 1, b"ab")];
+
+// Whether a steady sink takes and keeps just that.
+fn takes(alloc: Global, cut: usize, room: usize, writes: &[Write]) -> Result<bool, NoMemory>
+    requires { 0 < cut }
+{
+    let mut sink = SteadySink::new(alloc, cut, room)?;
+    let mut all = sink.bytes().is_empty();
+    for &(piece, taken, kept) in writes {
+        let count = sink.write(piece);
+        all = all && count == Ok(taken) && sink.bytes() == kept && sink.flush().is_ok();
+    }
+    Ok(all)
+}
+
+#[test]
+fn steady_sinks_take_all(rt: HostRuntime) {
+    assert_eq!(rt; takes(rt.alloc(), 3, 4, PAST_THE_ROOM), Ok(true));
+    assert_eq!(rt; takes(rt.alloc(), 3, 4, TO_THE_ROOM), Ok(true));
+    assert_eq!(rt; takes(rt.alloc(), 1, 2, BYTE_BY_BYTE), Ok(true));
 }

@@ -87,6 +87,8 @@ fn worked_patterns()
     ensures list { normal_of (Members (Int (pos 3) ∷ Int (negsuc 0) ∷ Int (pos 3) ∷ [])) ≡ Members (Int (negsuc 0) ∷ Int (pos 3) ∷ []) }
     ensures one { normal_of (Members (Text [] ∷ Text [] ∷ [])) ≡ Constant (Text []) }
     ensures covers { covers_pattern (Members (Int (pos 1) ∷ Int (pos 2) ∷ Int (pos 3) ∷ [])) (Range (Some (Int (pos 1))) (Some (Int (pos 3)))) ≡ false }
+    ensures part { covers_pattern (Members (Int (pos 1) ∷ Int (pos 2) ∷ Int (pos 3) ∷ [])) (Members (Int (pos 1) ∷ Int (pos 3) ∷ [])) ≡ true }
+    ensures no_part { covers_pattern (Members (Int (pos 1) ∷ Int (pos 3) ∷ [])) (Members (Int (pos 1) ∷ Int (pos 2) ∷ [])) ≡ false }
     ensures kinds { matches_value (Range (Some (Int (pos 1))) None) (Text []) ≡ false }
     ensures meet { meet_of (Range (Some (Int (pos 1))) None) (Range None (Some (Int (pos 1)))) ≡ Constant (Int (pos 1)) }
     ensures keep { keep_of (1 ∷ []) (Wild ∷ Empty ∷ []) ≡ Some (Empty ∷ []) }

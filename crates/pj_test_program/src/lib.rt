@@ -6,6 +6,8 @@ mod cases;
 #[cfg(test)]
 mod checks;
 #[cfg(test)]
+mod crowded;
+#[cfg(test)]
 mod examples;
 #[cfg(test)]
 mod gates;
@@ -21,5 +23,7 @@ mod options;
 mod replays;
 #[cfg(test)]
 mod runs;
+#[cfg(test)]
+mod steady;
 #[cfg(test)]
 mod workers;

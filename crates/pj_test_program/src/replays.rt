@@ -26,7 +26,7 @@ const ITEM: &[u8] = b"t 1 \"ann\"\np 1 *\n";
 const BID: &[u8] = b"t 1 50\np 1 *\n";
 
 // The first three sweeps find no row below the low-water ticket that is ripe.
-const LOW_SCRIPT: &[u8] =
+pub(crate) const LOW_SCRIPT: &[u8] =
     b"arrive items\narrive bids\narrive items\narrive bids\nsweep j items\nsweep j bids\ntake\ngive j 0\ntake\nsweep j items\ngive j 1\nsweep j items\nsweep j bids\n";
 
 const LOW_OUT: &[u8] =

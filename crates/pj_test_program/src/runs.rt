@@ -48,6 +48,10 @@ const NOTHING_OUT: &[u8] =
 pub(crate) const AUCTION: &[u8] =
     b"plan 1\nstream items item:int seller:text\nstream bids bitem:int price:int\nscheme items + _\nscheme bids + _\njoin j items bids on item=bitem\noutput j\n";
 
+const ITEMS: &[u8] = b"t 1 \"ann\"\np 1 *\n";
+
+const BIDS: &[u8] = b"t 1 50\np 1 *\nt 1 60\n";
+
 // What is written of the auction over these files. The bids' punctuation goes out at its arrival, since the sweep behind the
 // items' punctuation removed the bid; the items' punctuation waits for the next sweep.
 const AUCTION_OUT: &[u8] =
@@ -158,12 +162,7 @@ pub(crate) fn auction<'a>(command: &'a str, items: &'a [u8], bids: &'a [u8]) -> 
 #[test]
 fn two_streams_are_joined(rt: HostRuntime) {
     for (name, items, bids, want) in [
-        (
-            "a bid behind its punctuation",
-            b"t 1 \"ann\"\np 1 *\n".as_slice(),
-            b"t 1 50\np 1 *\nt 1 60\n".as_slice(),
-            AUCTION_OUT,
-        ),
+        ("a bid behind its punctuation", ITEMS, BIDS, AUCTION_OUT),
         (
             "empty files",
             b"",
@@ -206,13 +205,30 @@ fn two_streams_are_joined(rt: HostRuntime) {
 
 #[test]
 fn each_write_of_a_join_fails_in_turn(rt: HostRuntime) {
-    let case = auction(
-        "run --workers=0 plan a b",
-        b"t 1 \"ann\"\np 1 *\n",
-        b"t 1 50\np 1 *\nt 1 60\n",
-    );
+    let case = auction("run --workers=0 plan a b", ITEMS, BIDS);
     let lefts = [0, 15, 25, 35, 45, 55, 105, 154, 192, 219];
     assert_eq!(rt; wrong_write(&rt, &case, 4, AUCTION_OUT, &lefts), Ok(None));
+}
+
+// What is written of two items and two bids before the items' file ends.
+const UNREAD_OUT: &[u8] = b"t 1 \"ann\" 1 50\np * * 1 *\np 1 * * *\n";
+
+// The items have two reads of 7 bytes, a third of the rest, and one that finds their end.
+#[test]
+fn each_read_of_a_join_fails_in_turn(rt: HostRuntime) {
+    for (nth, left) in [(0, 0), (1, 0), (2, 15), (3, 35)] {
+        let case = Case {
+            cuts: [65_536, 65_536, 7, 65_536, 65_536],
+            fault: Fault::Read(A, nth),
+            ..auction("run --workers=0 plan a b", ITEMS, b"t 1 50\np 1 *\n")
+        };
+        let ended = ends(&rt, &case, front(UNREAD_OUT, left), STOPPED);
+        assert_eq!(rt;
+            ended,
+            Ok(Some(Status::ReadFault { operand: 2 })),
+            "at {nth}"
+        );
+    }
 }
 
 // The third tuples of `a` and of `c` each complete a row, and `a` has its turn first.
@@ -268,56 +284,75 @@ fn each_read_fails_in_turn(rt: HostRuntime) {
     }
 }
 
+// The opening and the first read of each operand. With workers too nothing else is written: no row has a partner yet, and each
+// punctuation waits.
 #[test]
-fn each_file_that_fails_is_named(rt: HostRuntime) {
-    for (fault, status, want) in [
-        (
-            Fault::Opening(0),
-            Status::OpenFault { operand: 1 },
-            b"# stopped open fault operand 1\n".as_slice(),
-        ),
-        (
-            Fault::Opening(1),
-            Status::OpenFault { operand: 2 },
-            b"# stopped open fault operand 2\n",
-        ),
-        (
-            Fault::Opening(2),
-            Status::OpenFault { operand: 3 },
-            b"# stopped open fault operand 3\n",
-        ),
-        (
-            Fault::Read(0, 0),
-            Status::ReadFault { operand: 1 },
-            b"# stopped read fault operand 1\n",
-        ),
-        (
-            Fault::Read(A, 0),
-            Status::ReadFault { operand: 2 },
-            b"# stopped read fault operand 2\n",
-        ),
-        (
-            Fault::Read(B, 0),
-            Status::ReadFault { operand: 3 },
-            b"# stopped read fault operand 3\n",
-        ),
-        (
-            Fault::Read(B, 2),
-            Status::ReadFault { operand: 3 },
-            b"t 1 \"ann\" 1 50\np * * 9 *\n# stopped read fault operand 3\n",
-        ),
+fn each_operand_that_fails_is_named(rt: HostRuntime) {
+    for command in [
+        "run --workers=0 plan a b",
+        "run --workers=1 plan a b",
+        "run --workers=2 plan a b",
     ] {
-        let case = Case {
-            cuts: [65_536, 65_536, 65_536, 7, 65_536],
-            fault,
-            ..auction(
-                "run --workers=0 plan a b",
-                b"t 1 \"ann\"\n",
-                b"t 1 50\np 9 *\n",
-            )
-        };
-        assert_eq!(rt; ends(&rt, &case, want, b""), Ok(Some(status)));
+        for (fault, status, want) in [
+            (
+                Fault::Opening(0),
+                Status::OpenFault { operand: 1 },
+                b"# stopped open fault operand 1\n".as_slice(),
+            ),
+            (
+                Fault::Opening(1),
+                Status::OpenFault { operand: 2 },
+                b"# stopped open fault operand 2\n",
+            ),
+            (
+                Fault::Opening(2),
+                Status::OpenFault { operand: 3 },
+                b"# stopped open fault operand 3\n",
+            ),
+            (
+                Fault::Read(0, 0),
+                Status::ReadFault { operand: 1 },
+                b"# stopped read fault operand 1\n",
+            ),
+            (
+                Fault::Read(A, 0),
+                Status::ReadFault { operand: 2 },
+                b"# stopped read fault operand 2\n",
+            ),
+            (
+                Fault::Read(B, 0),
+                Status::ReadFault { operand: 3 },
+                b"# stopped read fault operand 3\n",
+            ),
+        ] {
+            let case = Case {
+                fault,
+                ..auction(command, ITEMS, BIDS)
+            };
+            assert_eq!(rt;
+                ends(&rt, &case, want, b""),
+                Ok(Some(status)),
+                "at {command}"
+            );
+        }
     }
+}
+
+// The bids come by 7 bytes a read, of which the third fails.
+#[test]
+fn a_late_read_that_fails_leaves_what_came(rt: HostRuntime) {
+    let case = Case {
+        cuts: [65_536, 65_536, 65_536, 7, 65_536],
+        fault: Fault::Read(B, 2),
+        ..auction(
+            "run --workers=0 plan a b",
+            b"t 1 \"ann\"\n",
+            b"t 1 50\np 9 *\n",
+        )
+    };
+    let want = b"t 1 \"ann\" 1 50\np * * 9 *\n# stopped read fault operand 3\n";
+    let status = Status::ReadFault { operand: 3 };
+    assert_eq!(rt; ends(&rt, &case, want, b""), Ok(Some(status)));
 }
 
 // A file that is not there stops the call before anything is written but the status' line.
@@ -385,10 +420,16 @@ fn other_words_are_refused(rt: HostRuntime) {
         let ended = ends(&rt, &asked(command, b""), USAGE, b"");
         assert_eq!(rt; ended, Ok(Some(Status::Usage)), "at {command}");
     }
-    assert_eq!(rt;
-        ends_by(&rt, &[], &asked("", b""), USAGE, b""),
-        Ok(Some(Status::Usage))
-    );
+    for (fault, line) in [(Fault::Nothing, USAGE), (Fault::Write(0), b"")] {
+        let case = Case {
+            fault,
+            ..asked("", b"")
+        };
+        assert_eq!(rt;
+            ends_by(&rt, &[], &case, line, b""),
+            Ok(Some(Status::Usage))
+        );
+    }
 }
 
 #[test]

@@ -27,7 +27,7 @@ fn rows_are_selected(rt: HostRuntime) {
     }
 }
 
-// Whether these columns of the row 7, 5 are these.
+// Whether these columns of the row with the cells 7 and 5 are these.
 fn projects_to(alloc: Global, columns: &[u32], line: &str) -> Result<bool, NoMemory>
     requires { All (λ column. column < 2) columns.now }
 {

@@ -4,6 +4,7 @@ use Rattle.pj_report.specs.Results.{out_lines}
 use Rattle.pj_report.specs.Written.{flat, write_cut}
 use Rattle.pj_report.proofs.LinesWritten.{one_line, stopped_none, stopped_then, written_then}
 use Rattle.pj_report.proofs.Counting.{lines_more, lines_rest, counts_more}
+use Rattle.pj_report.proofs.Firsts.{all_counted, first_so}
 use Rattle.pj_report.proofs.results.write_outs.Goals as goal
 
 pub returns-in_err-out_text-clause-lines : goal.returns-in_err-out_text-clause-lines
@@ -44,3 +45,12 @@ loop-handed-preserved g c =
           (c.in_ok-write_piece.ensures.lines lines (one_line _ _ (c.as_slice.ensures ∙ c.in_ok-out_text.ensures)) t));
       counted = λ before is. counts_more outs i h before _ c.loop-handed-test.true c.handed-item.is (c.count.ensures (before ++ elements_out (take i outs)) (c.loop-handed.invariant.counted before is));
     }
+
+pub returns-in_err-out_text-clause-refused : goal.returns-in_err-out_text-clause-refused
+returns-in_err-out_text-clause-refused g c = first_so c.from_residual.result c.args.outs.now c.loop-handed.handed-index _ c.loop-handed.invariant.counted
+
+pub returns-in_err-write_piece-clause-refused : goal.returns-in_err-write_piece-clause-refused
+returns-in_err-write_piece-clause-refused g c = first_so c.from_residual-in_err-write_piece.result c.args.outs.now c.loop-handed.handed-index _ c.loop-handed.invariant.counted
+
+pub returns-clause-counted : goal.returns-clause-counted
+returns-clause-counted g c = λ before is. all_counted c.args.outs.now c.loop-handed.handed-index before c.loop-handed.counts c.loop-handed-test.false (c.loop-handed.invariant.counted before is)

@@ -14,10 +14,12 @@ use Rattle.pj_run.specs.Stops.{of_feed}
 use Rattle.pj_run.specs.Whole.{LeavesWhole}
 use Rattle.pj_run.proofs.Carried.{turn_cut_same}
 use Rattle.pj_run.proofs.Ending.{brings_none, brings_some, given_none, given_some, same_none}
+use Rattle.pj_run.proofs.Refused.{on_err}
 use Rattle.pj_run.proofs.Running.{turn_of_feeds}
 use Rattle.pj_run.proofs.WholeLaws.{leaves_then, leaves_wrote, none_wrote, wrote_same, wrote_then}
-use Rattle.pj_run.specs.Goes.{HasLists, StopCause, StopLeaves}
-use Rattle.pj_run.proofs.GoingTurns.{end_gathers, end_lines, feed_causes, feed_ends, few_of, going_lines, going_more, kept_more, there_for, turn_causes, turn_cut_lines, turn_ends}
+use Rattle.pj_run.specs.Goes.{HasLists, StopCause, StopLeaves, WhereGoing}
+use Rattle.pj_run.specs.Refused.{RunLeaves}
+use Rattle.pj_run.proofs.GoingTurns.{end_gathers, end_lines, feed_causes, feed_ends, few_of, going_lines, going_more, kept_more, refused_before, refused_row, refused_turn, there_for, turn_causes, turn_cut_lines, turn_ends}
 use Rattle.pj_run.proofs.rest.go_on.Given.{Over}
 use Rattle.pj_run.proofs.rest.go_on.Goals.{In-Some, In_default}
 use Rattle.pj_run.proofs.rest.go_on.Goals as goal
@@ -220,3 +222,30 @@ returns-clause-whole g c = λ names t. wrote_same _ _ _ (c.in_ok-next.ensures.wr
 
 pub returns-clause-has_taken : goal.returns-clause-has_taken
 returns-clause-has_taken g c = λ form had. c.turns.invariant.taken form had
+
+-- ---- what a refusal leaves
+
+pub returns-in_err-next-clause-left : goal.returns-in_err-next-clause-left
+returns-in_err-next-clause-left g c =
+    on_err c.from_residual.result (WhereGoing c.args.core.now c.args.feeds.now.feeds.items c.args.feeds.now.at c.args.gathered.now (g.K.Sink.state c.args.out.now) (λ run. RunLeaves run c.turns.core c.turns.gathered))
+    (λ run history going.
+    let now = c.turns.invariant.goes run history going in
+    refused_before run now.0 c.turns.core c.turns.feeds.feeds.items c.turns.feeds.at c.turns.gathered (g.K.Sink.state c.turns.out) now.1 c.turns.invariant.on)
+
+pub returns-in_err-keep-clause-left : goal.returns-in_err-keep-clause-left
+returns-in_err-keep-clause-left g c =
+    on_err c.from_residual-in_err-keep.result (WhereGoing c.args.core.now c.args.feeds.now.feeds.items c.args.feeds.now.at c.args.gathered.now (g.K.Sink.state c.args.out.now) (λ run. RunLeaves run c.turns.core (record { results = c.turns.gathered.results; accepted = c.keep.new.self })))
+    (λ run history going.
+    let now = c.turns.invariant.goes run history going in
+    refused_row run now.0 c.turns.core c.turns.feeds.feeds.items c.turns.feeds.at c.turns.gathered (g.K.Sink.state c.turns.out) now.1 c.turns.invariant.on c.keep.new.self c.in_err-keep.ensures.asked c.in_err-keep.ensures.refused)
+
+pub returns-in_err-take_turn-clause-left : goal.returns-in_err-take_turn-clause-left
+returns-in_err-take_turn-clause-left g c =
+    let a = (goal.at.returns-in_err-take_turn-clause-left g c).In-Some in
+    on_err c.from_residual-in_err-take_turn.result (WhereGoing c.args.core.now c.args.feeds.now.feeds.items c.args.feeds.now.at c.args.gathered.now (g.K.Sink.state c.args.out.now) (λ run. RunLeaves run c.take_turn.new.core (record { results = c.take_turn.new.results; accepted = c.keep.new.self })))
+    (λ run history going.
+    let now = c.turns.invariant.goes run history going in
+    refused_turn run now.0 c.turns.core c.turns.feeds.feeds.items c.next_turn.new.feeds.feeds.items c.turns.feeds.at c.next_turn.new.feeds.at c.turns.gathered (g.K.Sink.state c.turns.out) (g.K.Sink.state c.next_turn.new.out) c.in-Some.next now.1 (fed g a) c.in_ok-next.ensures.written (gives g a)
+    c.take_turn.new.core c.take_turn.new.results c.keep.new.self c.in_err-take_turn.ensures.left
+    (kept_more run now.0 c.turns.core c.turns.feeds.feeds.items c.next_turn.new.feeds.feeds.items c.turns.feeds.at c.next_turn.new.feeds.at c.turns.gathered (g.K.Sink.state c.turns.out) (g.K.Sink.state c.next_turn.new.out) c.in-Some.next now.1 (fed g a) c.in_ok-next.ensures.written (gives g a)
+    c.keep.new.self (lists g a) (brings g a) c.in_ok-keep.ensures.asked c.in_ok-keep.ensures.many c.in_ok-keep.ensures.kept))

@@ -1,4 +1,4 @@
-use Rattle.std.proofs.Common.{[], ℕ, ap, cond, length, subst}
+use Rattle.std.proofs.Common.{[], ℕ, ap, cond, length, refl, subst}
 use Rattle.pj_feed.proofs.AllFeeds.{all_same}
 use Rattle.pj_feed.proofs.Answered.{err_is, if_err}
 use Rattle.pj_report.specs.Written.{between}
@@ -6,7 +6,9 @@ use Rattle.pj_report.proofs.LinesWritten.{none_written}
 use Rattle.pj_run.specs.declared.run.Gathered.{Gathered}
 use Rattle.pj_run.specs.Checking.{HoldsNone}
 use Rattle.pj_run.specs.Goes.{IsGoing, RunStart}
-use Rattle.pj_run.specs.Runs.{job_in}
+use Rattle.pj_feed.specs.Feeds.{files_of}
+use Rattle.pj_run.specs.Runs.{history_of, job_in}
+use Rattle.pj_run.proofs.Refused.{on_err, stands_on}
 use Rattle.pj_run.proofs.Running.{begins, begins-lists, is-planned, turns_cause}
 use Rattle.pj_run.proofs.WholeLaws.{none_wrote}
 use Rattle.pj_run.proofs.run.run_streams.Given.{Over}
@@ -100,3 +102,21 @@ returns-clause-whole g c = λ t. c.in_ok-go_on.ensures.whole c.requires.fresh.na
 
 pub returns-clause-has_taken : goal.returns-clause-has_taken
 returns-clause-has_taken g c = c.in_ok-go_on.ensures.has_taken c.args.writing.form ([], c.new-results.ensures)
+
+-- ---- what a refusal leaves of the core
+
+pub returns-in_err-accepted-clause-left : goal.returns-in_err-accepted-clause-left
+returns-in_err-accepted-clause-left g c = λ told.
+    let fresh = c.requires.fresh.fresh in
+    on_err c.from_residual.result _ (record {
+      front = [];
+      others = history_of (job_in c.args.writing c.args.core.now) (files_of c.args.feeds.now.feeds.items);
+      all = refl;
+      so = stands_on c.args.core.now [] fresh.on fresh.stands;
+    })
+
+pub returns-in_err-go_on-clause-left : goal.returns-in_err-go_on-clause-left
+returns-in_err-go_on-clause-left g c = λ told.
+    let a = goal.at.returns-in_err-go_on-clause-left g c in
+    let f = (c.in_err-go_on.ensures.left (run g a.Start) [] (begun g a.In_ok-accepted) told).0 in
+    on_err c.from_residual-in_err-go_on.result _ (record { front = f.front; others = f.others; all = f.all; so = f.so.0 })

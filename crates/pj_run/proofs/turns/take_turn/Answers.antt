@@ -5,6 +5,7 @@ use Rattle.pj_plan.specs.Nodes.{streams_in}
 use Rattle.pj_feed.specs.Feeds.{turn_in}
 use Rattle.pj_report.specs.Forms.{shown}
 use Rattle.pj_report.specs.Written.{WritesBy, write_cut}
+use Rattle.pj_run.proofs.Refused.{turn_left}
 use Rattle.pj_run.proofs.TurnLaws.{end_cut, end_done, end_fault, end_leaves, end_stops, same_nodes}
 use Rattle.pj_run.proofs.turns.take_turn.Given.{Over}
 use Rattle.pj_run.proofs.turns.take_turn.Goals.{After-take-written}
@@ -48,3 +49,8 @@ returns-clause-whole g c = λ plain t.
     let new = g.K.Sink.state c.take-written.new.out in
     end_wrote c.take-written.result c.turn_core-handed.result.stop c.turn_end.result old new c.turn_end.ensures
     (wrote_lines write_cut (shown form nodes c.as_slice.result.now) old new c.take-written.result (shown_are_lines form nodes c.as_slice.result.now plain) (wrote g (goal.at.returns-clause-whole g c).After-take-written t))
+
+pub returns-clause-left : goal.returns-clause-left
+returns-clause-left g c =
+    turn_left c.turn_end.result c.args.core.now c.turn_core-handed.new.core (turn_in (streams_in c.args.core.now.plan.nodes) c.args.next) c.turn_core-handed.result.outs c.as_slice.result.now c.take-written.result c.args.results.now c.take-written.new.self
+    c.turn_core-handed.ensures.over c.as_slice.ensures c.take-written.ensures.taken c.take-written.ensures.refused

@@ -1,8 +1,7 @@
-use Rattle.std.proofs.Common.{◌≡◌, ◌∙◌, ◌++◌, ℕ, List, false, get_or, length, ap, map, subst, sym}
+use Rattle.std.proofs.Common.{◌≡◌, ◌∙◌, ◌++◌, ℕ, List, get_or, length, ap, map, subst, sym}
 use Rattle.pj_state.specs.declared.shared.Stored.{Stored}
 use Rattle.pj_state.specs.Rising.{IsRising, itself}
 use Rattle.pj_state.specs.States.{StateView, ticket_of, tickets_of}
-use Rattle.pj_value.specs.Lists.{In}
 use Rattle.pj_recheck.specs.Judging.{JudgeView, ripe_at, row_in, rows_at}
 use Rattle.pj_rows.specs.Tuples.{state_at}
 use Rattle.pj_recheck.specs.Watching.{HaveDue}

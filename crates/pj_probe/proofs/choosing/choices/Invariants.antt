@@ -1,6 +1,0 @@
-use Rattle.std.proofs.Common.{take}
-use Rattle.pj_probe.specs.Hops.{AreFound}
-use Rattle.pj_probe.proofs.choosing.choices.Given as goal
-
-abbrev pub invariant-loop-at : goal.invariant-loop-at
-invariant-loop-at l = AreFound l.own l.sides (take l.at l.route.steps) l.lists.items
