@@ -21,6 +21,8 @@ pub loop-at-preserved : goal.loop-at-preserved
 loop-at-preserved c =
     let links = c.as_slice-links.result.now in
     let step = own_step c.args.own.now.input c.saturating_sub-input.result (length c.args.sides.now) c.args.route.now (get_or links c.loop-at.at none) links c.if-sides-ne2.false (c.saturating_sub-input.ensures ∙ ap (λ n. 1 - n) c.input.ensures) c.as_slice-links.ensures (in-place links none c.loop-at.at c.loop-at-test.true) in
-    elim c.match-linked_to.branch [ in-None w ↦ subst (λ (o : Option ProbeStep). IfSome o (IsOwnStep (length c.args.sides.now) c.args.own.now.input c.args.route.now)) (sym w.best-is) c.loop-at.invariant
+    elim c.match-linked_to.branch [
+      | in-None w ↦ subst (λ (o : Option ProbeStep). IfSome o (IsOwnStep (length c.args.sides.now) c.args.own.now.input c.args.route.now)) (sym w.best-is) c.loop-at.invariant
       | in-Some+then-is_none w ↦ subst (λ (o : Option ProbeStep). IfSome o (IsOwnStep (length c.args.sides.now) c.args.own.now.input c.args.route.now)) (sym w.best-is) step
-      | in-Some+else-is_none+else-len-fewest w ↦ subst (λ (o : Option ProbeStep). IfSome o (IsOwnStep (length c.args.sides.now) c.args.own.now.input c.args.route.now)) (sym w.best-is) c.loop-at.invariant ]
+      | in-Some+else-is_none+else-len-fewest w ↦ subst (λ (o : Option ProbeStep). IfSome o (IsOwnStep (length c.args.sides.now) c.args.own.now.input c.args.route.now)) (sym w.best-is) c.loop-at.invariant
+    ]
