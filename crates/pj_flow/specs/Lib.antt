@@ -1,3 +1,4 @@
 pub mod Handed
 pub mod Unions
 pub mod Insides
+pub mod Stored

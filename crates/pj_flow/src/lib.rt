@@ -5,7 +5,9 @@
 
 mod columns;
 mod heard;
+mod sample;
 mod select;
+mod stores;
 mod union;
 
 pub use columns::{cell, project_punct, project_tuple};
