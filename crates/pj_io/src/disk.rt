@@ -5,11 +5,12 @@ ghost use Rattle.pj_io.specs.Causes.{HasCause, CountsErrors};
 ghost use Rattle.pj_io.specs.Pieces.{Reads};
 
 use crate::book::{Note, count_faults, enter, note_opened};
+use crate::held::INTERRUPTIONS;
 use crate::{Failed, Folder, OpenStop, Source};
 use pj_value::{Bytes, List};
 use std::alloc::Global;
 use std::fs;
-use std::io::Read;
+use std::io::{ErrorKind, Read};
 use std::marker::Model;
 use std::rt::Files;
 
@@ -33,7 +34,7 @@ impl<R> Model for FileSource<R> {
 impl<R: Read> Source for FileSource<R> {
     ghost state = { λ s. s };
 
-    /// Reads once from the system, and counts each error.
+    /// Reads once from the system, again where a signal interrupts that, and counts each error.
     fn read(&mut self, buf: &mut [u8]) -> Result<usize, Failed>
         ensures bound { IfOk result (λ n. n ≤ length buf.new) }
         ensures bytes { IsTrue self.old.told → Reads self.old self.new buf.new result }
@@ -42,14 +43,31 @@ impl<R: Read> Source for FileSource<R> {
         ensures cause { HasCause self.old.faults self.new.faults result }
         ensures counts { CountsErrors self.old.faults self.new.faults result }
     {
-        match self.inner.read(buf) {
+        match read_some(&mut self.inner, buf) {
             Ok(count) => Ok(count),
-            Err(_) => {
+            Err(Failed) => {
                 self.faults = self.faults.saturating_add(1);
                 Err(Failed)
             }
         }
     }
+}
+
+// Reads once from the system; again where a signal interrupts that.
+fn read_some<R: Read>(inner: &mut R, buf: &mut [u8]) -> Result<usize, Failed>
+    ensures { IfOk result (λ n. n ≤ length buf.new) }
+{
+    for _ in 0..INTERRUPTIONS {
+        match inner.read(buf) {
+            Ok(count) => return Ok(count),
+            Err(error) => {
+                if error.kind() != ErrorKind::Interrupted {
+                    return Err(Failed);
+                }
+            }
+        }
+    }
+    Err(Failed)
 }
 
 /// The files on disk, with the faults counted at each name. A name that is not UTF-8 is a counted fault.

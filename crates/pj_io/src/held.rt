@@ -6,10 +6,13 @@ use crate::Failed;
 use pj_value::NoMemory;
 use std::alloc::Global;
 use std::io;
-use std::io::Write;
+use std::io::{ErrorKind, Write};
 
 /// How many bytes are held back until they are handed on.
 const HELD: usize = 65536;
+
+/// How many interruptions by signals, one right behind the other, a read or a write is tried again after.
+pub const INTERRUPTIONS: usize = 1_000_000;
 
 /// The bytes, of which so many were handed on.
 #[derive(Drop)]
@@ -72,13 +75,26 @@ impl Held {
     }
 }
 
-// Writes a front of the bytes, at least one of them. A write of none is a fault.
+// Writes a front of the bytes, at least one of them; again where a signal interrupts that. A write of none is a fault.
 fn write_some<P: Print>(rt: &P, bytes: &[u8]) -> Result<usize, Failed>
     ensures bound { IfOk result (λ n. n ≤ length bytes.now) }
     ensures progress { IfOk result (λ n. 0 < n) }
 {
-    match io::writer(rt).write(bytes) {
-        Ok(count) => { if count > 0 { Ok(count) } else { Err(Failed) } }
-        Err(_) => Err(Failed),
+    for _ in 0..INTERRUPTIONS {
+        match io::writer(rt).write(bytes) {
+            Ok(count) => {
+                if count > 0 {
+                    return Ok(count)
+                } else {
+                    return Err(Failed)
+                }
+            }
+            Err(error) => {
+                if error.kind() != ErrorKind::Interrupted {
+                    return Err(Failed);
+                }
+            }
+        }
     }
+    Err(Failed)
 }
