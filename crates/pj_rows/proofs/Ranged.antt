@@ -18,10 +18,10 @@ use Rattle.pj_events.specs.Patterns.{Pattern, matches_row, matches_value}
 use Rattle.pj_events.specs.Join.{In, has}
 use Rattle.pj_state.specs.declared.shared.Stored.{Stored}
 use Rattle.pj_state.specs.States.{has_value, rows_with, ticket_of, tickets_of}
-use Rattle.pj_state.specs.Ordered.{HasNumber, IsFrom, NoneBetween}
+use Rattle.pj_state.specs.Ordered.{HasNumber, IsFrom, IsUpTo, NoneAbove, NoneBetween}
 use Rattle.pj_rows.specs.declared.ranges.Numbers.{Numbers}
 use Rattle.pj_rows.specs.Finding.{has_match, is_match, stays, still_held}
-use Rattle.pj_rows.specs.Ranges.{HasAmong, HoldAll, HoldTrue, IsAmong, IsBefore, IsUpTo, MatchesAmong, NeedsAmong, NoneStays}
+use Rattle.pj_rows.specs.Ranges.{HasAmong, HoldAll, HoldTrue, IsAmong, IsBefore, IsBehind, MatchesAmong, NeedsAmong, NoneStays}
 
 -- ---- what a range of integers matches
 
@@ -98,6 +98,43 @@ among-before column numbers left rows s same none h (n, at, among) = (n, at, amo
 has-number : (column : ℕ) (n : ℤ) (s : Stored) → HasNumber column n s → has_value column (Int n) s ≡ true
 has-number column n s at = ap (is_value (Int n)) at ∙ equal_itself (Int n)
 
+-- ---- from one integer down to the next
+
+-- an integer is one up to a place or not
+up-or-not : (to : Option ℤ) (n : ℤ) → IsUpTo to n ⊎ (IsUpTo to n → ⊥)
+up-or-not None n = inl tt
+up-or-not (Some to) n = go (int_cmp n to) (int_ranks n to)
+  where
+    go : (o : Ordering) → MatchOrdering o (n <ℤ to) (n ≡ to) (to <ℤ n) → (n ≤ℤ to) ⊎ (n ≤ℤ to → ⊥)
+    go Less m = inl (omega (arith, ints, m))
+    go Equal m = inl (omega (arith, ints, m))
+    go Greater m = inr (λ h. omega (arith, ints, m, h))
+
+-- what stands behind the place before the greatest one: it, or what stands behind that
+behind-or-it : (column : ℕ) (high to : Option ℤ) (last before : ℤ) (rows : List Stored) (s : Stored) → before +ℤ pos 1 ≡ last → NoneAbove column to last rows → In s rows → IsBehind column high (Some before) s
+    → HasNumber column last s ⊎ IsBehind column high to s
+behind-or-it column high to last before rows s one none h (n, at, below, not-before) = go (up-or-not to n)
+  where
+    go : IsUpTo to n ⊎ (IsUpTo to n → ⊥) → HasNumber column last s ⊎ IsBehind column high to s
+    go (inl f) =
+        let greatest : n ≤ℤ last = none s n h at f in
+        let same : n ≡ last = rank (int_cmp n last) (int_ranks n last) greatest in
+        inl (subst (λ k. HasNumber column k s) same at)
+      where
+        rank : (o : Ordering) → MatchOrdering o (n <ℤ last) (n ≡ last) (last <ℤ n) → n ≤ℤ last → n ≡ last
+        rank Less m l = absurd (not-before (omega (arith, ints, m, one)))
+        rank Equal m l = m
+        rank Greater m l = absurd (omega (arith, ints, m, l))
+    go (inr f) = inr (n, at, below, f)
+
+none-behind : (column : ℕ) (high : Option ℤ) (s : Stored) → IsBehind column high high s → ⊥
+none-behind column high s (n, at, below, not-below) = not-below below
+
+-- none of these integers is left up to the place: each stands behind it
+among-behind : (column : ℕ) (numbers left : Numbers) (rows : List Stored) (s : Stored) → left.low ≡ numbers.low
+    → ((s : Stored) (n : ℤ) → In s rows → HasNumber column n s → IsAmong left n → ⊥) → In s rows → HasAmong column numbers s → IsBehind column numbers.high left.high s
+among-behind column numbers left rows s same none h (n, at, among) = (n, at, among.1, λ f. none s n h at (subst (λ (end : Option ℤ). IsFrom end n) (sym same) among.0, f))
+
 -- ---- the tickets of rows
 
 in-front : (t : ℕ) (xs ys : List ℕ) → In t xs → In t (xs ++ ys)
@@ -133,24 +170,43 @@ none-of {A} p (y ∷ xs) x e h = go (p y) refl e h (none-of p xs x)
     go false f n (inl i) rest = ap p (sym i) ∙ f
     go false f n (inr i) rest = rest n i
 
-pub stay_more : (column : ℕ) (low from : Option ℤ) (next behind : ℤ) (rows : List Stored) (gone : List ℕ) (ps : List Pattern) → behind ≡ next +ℤ pos 1
-    → NoneStays (IsBefore column low from) rows gone ps → NoneBetween column from next rows → still_held (rows_with column (Int next) rows) gone ps ≡ false → NoneStays (IsBefore column low (Some behind)) rows gone ps
-stay_more column low from next behind rows gone ps one stay none held s h before = go (before-or-it column low from next behind rows s one none h before)
+-- where none of the first kind stays, and none with this integer, none of a kind does that has the integer or is of the first kind
+stay-with : (P Q : Stored → Type 0) (column : ℕ) (n : ℤ) (rows : List Stored) (gone : List ℕ) (ps : List Pattern) → NoneStays P rows gone ps → ((s : Stored) → In s rows → Q s → HasNumber column n s ⊎ P s)
+    → still_held (rows_with column (Int n) rows) gone ps ≡ false → NoneStays Q rows gone ps
+stay-with P Q column n rows gone ps stay which held s h q = go (which s h q)
   where
-    go : HasNumber column next s ⊎ IsBefore column low from s → stays gone ps s ≡ false
-    go (inl at) = none-of (stays gone ps) (rows_with column (Int next) rows) s held (In-filter_from (has_value column (Int next)) s rows h (has-number column next s at))
-    go (inr b) = stay s h b
+    go : HasNumber column n s ⊎ P s → stays gone ps s ≡ false
+    go (inl at) = none-of (stays gone ps) (rows_with column (Int n) rows) s held (In-filter_from (has_value column (Int n)) s rows h (has-number column n s at))
+    go (inr p) = stay s h p
 
--- where none stays before the place, and none of the integers is left from it on, none stays
-pub stay_none : (column : ℕ) (numbers left : Numbers) (rows : List Stored) (gone : List ℕ) (ps : List Pattern) → NeedsAmong ps column numbers → NoneStays (IsBefore column numbers.low left.low) rows gone ps → left.high ≡ numbers.high
-    → ((s : Stored) (n : ℤ) → In s rows → HasNumber column n s → IsAmong left n → ⊥) → still_held rows gone ps ≡ false
-stay_none column numbers left rows gone ps needs stay same none = false_from_ne_true (still_held rows gone ps) no
+-- where none of the kind stays, and each row that has one of the integers is of it, none stays
+stay-all : (P : Stored → Type 0) (column : ℕ) (numbers : Numbers) (rows : List Stored) (gone : List ℕ) (ps : List Pattern) → NeedsAmong ps column numbers → NoneStays P rows gone ps
+    → ((s : Stored) → In s rows → HasAmong column numbers s → P s) → still_held rows gone ps ≡ false
+stay-all P column numbers rows gone ps needs stay are = false_from_ne_true (still_held rows gone ps) no
   where
     no : still_held rows gone ps ≡ true → ⊥
     no t =
         let found = any_at (stays gone ps) rows t in
         let among = needs found.0.row (and_parts (matches_row ps found.0.row) (not (has gone found.0.ticket)) found.2).0 in
-        false≢true (sym (stay found.0 found.1 (among-before column numbers left rows found.0 same none found.1 (among.0, among.1, among.2))) ∙ found.2)
+        false≢true (sym (stay found.0 found.1 (are found.0 found.1 (among.0, among.1, among.2))) ∙ found.2)
+
+pub stay_more : (column : ℕ) (low from : Option ℤ) (next behind : ℤ) (rows : List Stored) (gone : List ℕ) (ps : List Pattern) → behind ≡ next +ℤ pos 1
+    → NoneStays (IsBefore column low from) rows gone ps → NoneBetween column from next rows → still_held (rows_with column (Int next) rows) gone ps ≡ false → NoneStays (IsBefore column low (Some behind)) rows gone ps
+stay_more column low from next behind rows gone ps one stay none = stay-with (IsBefore column low from) (IsBefore column low (Some behind)) column next rows gone ps stay (λ s h. before-or-it column low from next behind rows s one none h)
+
+pub stay_less : (column : ℕ) (high to : Option ℤ) (last before : ℤ) (rows : List Stored) (gone : List ℕ) (ps : List Pattern) → before +ℤ pos 1 ≡ last
+    → NoneStays (IsBehind column high to) rows gone ps → NoneAbove column to last rows → still_held (rows_with column (Int last) rows) gone ps ≡ false → NoneStays (IsBehind column high (Some before)) rows gone ps
+stay_less column high to last before rows gone ps one stay none = stay-with (IsBehind column high to) (IsBehind column high (Some before)) column last rows gone ps stay (λ s h. behind-or-it column high to last before rows s one none h)
+
+-- where none stays before the place, and none of the integers is left from it on, none stays
+pub stay_none : (column : ℕ) (numbers left : Numbers) (rows : List Stored) (gone : List ℕ) (ps : List Pattern) → NeedsAmong ps column numbers → NoneStays (IsBefore column numbers.low left.low) rows gone ps → left.high ≡ numbers.high
+    → ((s : Stored) (n : ℤ) → In s rows → HasNumber column n s → IsAmong left n → ⊥) → still_held rows gone ps ≡ false
+stay_none column numbers left rows gone ps needs stay same none = stay-all (IsBefore column numbers.low left.low) column numbers rows gone ps needs stay (λ s h. among-before column numbers left rows s same none h)
+
+-- the same where none stays behind the place, and none of the integers is left up to it
+pub stay_none_down : (column : ℕ) (numbers left : Numbers) (rows : List Stored) (gone : List ℕ) (ps : List Pattern) → NeedsAmong ps column numbers → NoneStays (IsBehind column numbers.high left.high) rows gone ps → left.low ≡ numbers.low
+    → ((s : Stored) (n : ℤ) → In s rows → HasNumber column n s → IsAmong left n → ⊥) → still_held rows gone ps ≡ false
+stay_none_down column numbers left rows gone ps needs stay same none = stay-all (IsBehind column numbers.high left.high) column numbers rows gone ps needs stay (λ s h. among-behind column numbers left rows s same none h)
 
 -- ---- rows whose value a pattern matches
 

@@ -5,20 +5,19 @@ use Rattle.pj_value.specs.declared.values.Value.TheVariants.{Int}
 use Rattle.pj_state.specs.declared.shared.Stored.{Stored}
 use Rattle.pj_state.specs.declared.state.NextNumber.{NextNumber}
 use Rattle.pj_state.specs.declared.state.NextNumber.TheVariants.{Untold, Nothing, At}
-use Rattle.pj_state.specs.Ordered.{HasNumber, IsFrom, NoneBetween}
+use Rattle.pj_state.specs.Ordered.{HasNumber, IsFrom, IsUpTo, NoneAbove, NoneBetween}
 use Rattle.pj_events.specs.Join.{In}
 use Rattle.pj_events.specs.Patterns.{Pattern, matches_row, matches_value}
 use Rattle.pj_rows.specs.Finding.{stays}
 use Rattle.pj_rows.specs.declared.ranges.Numbers.{Numbers}
 
--- the integer is at most this one; where none is named, each is
-abbrev pub IsUpTo : Option ℤ → ℤ → Type 0
-IsUpTo None n = Unit {0}
-IsUpTo (Some to) n = n ≤ℤ to
-
 -- no integer from this one on is at most the end
 abbrev pub IsPast : ℤ → Option ℤ → Type 0
 IsPast next high = (n : ℤ) → next ≤ℤ n → IsUpTo high n → ⊥
+
+-- no integer up to this one is at least the end
+abbrev pub IsShort : ℤ → Option ℤ → Type 0
+IsShort last low = (n : ℤ) → n ≤ℤ last → IsFrom low n → ⊥
 
 -- the integer is one of these
 abbrev pub IsAmong : Numbers → ℤ → Type 0
@@ -38,6 +37,12 @@ TellsAmong column numbers rows Untold = Unit {0}
 TellsAmong column numbers rows Nothing = (s : Stored) (n : ℤ) → In s rows → HasNumber column n s → IsAmong numbers n → ⊥
 TellsAmong column numbers rows (At next) = NoneBetween column numbers.low next rows
 
+-- what is told of the greatest of these integers that a row has in the column: each that one has is at most that
+abbrev pub TellsAmongDown : ℕ → Numbers → List Stored → NextNumber → Type 0
+TellsAmongDown column numbers rows Untold = Unit {0}
+TellsAmongDown column numbers rows Nothing = (s : Stored) (n : ℤ) → In s rows → HasNumber column n s → IsAmong numbers n → ⊥
+TellsAmongDown column numbers rows (At last) = NoneAbove column numbers.high last rows
+
 -- the tickets of the rows that pass the test are among these
 abbrev pub HoldAll : (Stored → Type 0) → List Stored → List ℕ → Type 0
 HoldAll P rows tickets = (s : Stored) → In s rows → P s → In s.ticket tickets
@@ -48,6 +53,10 @@ HoldTrue p rows tickets = (s : Stored) → In s rows → p s ≡ true → In s.t
 -- the row has one of the integers from the first place on, but none from the second one on
 abbrev pub IsBefore : ℕ → Option ℤ → Option ℤ → Stored → Type 0
 IsBefore column low from s = (n : ℤ) × HasNumber column n s × IsFrom low n × (IsFrom from n → ⊥)
+
+-- the row has one of the integers up to the first place, but none up to the second one
+abbrev pub IsBehind : ℕ → Option ℤ → Option ℤ → Stored → Type 0
+IsBehind column high to s = (n : ℤ) × HasNumber column n s × IsUpTo high n × (IsUpTo to n → ⊥)
 
 -- the row has one of these integers in this column
 abbrev pub HasAmong : ℕ → Numbers → Stored → Type 0

@@ -6,12 +6,12 @@ ghost use Rattle.pj_value.specs.Lists.{In};
 ghost use Rattle.pj_pattern.specs.declared.pattern.Form.TheVariants.{Range};
 ghost use Rattle.pj_state.specs.States.{rows_with, tickets_of};
 ghost use Rattle.pj_state.specs.Rising.{IsRising, itself};
-ghost use Rattle.pj_rows.specs.Ranges.{HasAmong, HoldAll, IsPast, MatchesAmong, NeedsAmong, TellsAmong};
+ghost use Rattle.pj_rows.specs.Ranges.{HasAmong, HoldAll, IsPast, IsShort, MatchesAmong, NeedsAmong, TellsAmong, TellsAmongDown};
 ghost use Rattle.pj_rows.specs.Finding.{IsFound};
 
 use crate::finding::find_matching;
 use pj_pattern::{Pattern, Punct, Shape};
-use pj_state::{NextNumber, State};
+use pj_state::{NextNumber, Seek, State};
 use pj_value::{List, NoMemory, Value};
 use std::alloc::Global;
 
@@ -86,7 +86,7 @@ fn next_among(state: &State, column: u32, numbers: Numbers) -> NextNumber
     requires { In column state.now.columns }
     ensures { TellsAmong column numbers state.now.rows result }
 {
-    match state.next_number(column, numbers.low) {
+    match state.nearest_number(column, Seek::AtLeast(numbers.low)) {
         NextNumber::Untold => NextNumber::Untold,
         NextNumber::Nothing => NextNumber::Nothing,
         NextNumber::At(number) => {
@@ -97,6 +97,41 @@ fn next_among(state: &State, column: u32, numbers: Numbers) -> NextNumber
             }
         }
     }
+}
+
+// Whether the integer is below the end.
+fn is_below(number: i64, low: Option<i64>) -> bool
+    ensures { IsTrue result → IsShort number low }
+{
+    match low {
+        None => false,
+        Some(from) => number < from,
+    }
+}
+
+// The greatest of these integers that a row has in a column.
+fn last_among(state: &State, column: u32, numbers: Numbers) -> NextNumber
+    requires { In column state.now.columns }
+    ensures { TellsAmongDown column numbers state.now.rows result }
+{
+    match state.nearest_number(column, Seek::AtMost(numbers.high)) {
+        NextNumber::Untold => NextNumber::Untold,
+        NextNumber::Nothing => NextNumber::Nothing,
+        NextNumber::At(number) => {
+            if is_below(number, numbers.low) {
+                NextNumber::Nothing
+            } else {
+                NextNumber::At(number)
+            }
+        }
+    }
+}
+
+// The integer before this one; `None` where it is the least.
+fn before(number: i64) -> Option<i64>
+    ensures { IfSome result (λ last. last +ℤ pos 1 ≡ number) }
+{
+    number.checked_sub(1)
 }
 
 // The integer behind this one; `None` where it is the greatest.
@@ -194,13 +229,59 @@ fn find_with(state: &State, column: u32, number: i64, gone: &[u64], punct: &Punc
 }
 
 /// The ticket of a row that stays and matches the punctuation, which needs one of these integers in the column; without
-/// where no order of them is kept.
+/// where no order of them is kept. Of a range with an upper end the greatest is found: where watermarks rise, that row stays
+/// longest.
 pub fn find_among(
     state: &State,
     gone: &[u64],
     punct: &Punct,
     stretch: Stretch,
 ) -> Option<Option<u64>>
+    requires indexed { In stretch.column state.now.columns }
+    requires needs { NeedsAmong punct.now stretch.column stretch.numbers }
+    requires rising { IsRising itself gone.now }
+    ensures { IfSome result (IsFound state.now.rows gone.now punct.now) }
+{
+    match stretch.numbers.high {
+        None => find_upwards(state, gone, punct, stretch),
+        Some(_) => find_downwards(state, gone, punct, stretch),
+    }
+}
+
+// The same, from the greatest of the integers down.
+fn find_downwards(
+    state: &State,
+    gone: &[u64],
+    punct: &Punct,
+    stretch: Stretch,
+) -> Option<Option<u64>>
+    requires indexed { In stretch.column state.now.columns }
+    requires needs { NeedsAmong punct.now stretch.column stretch.numbers }
+    requires rising { IsRising itself gone.now }
+    ensures { IfSome result (IsFound state.now.rows gone.now punct.now) }
+{
+    let mut left = stretch.numbers;
+    for _ in 0..state.len().saturating_add(1) {
+        match last_among(state, stretch.column, left) {
+            NextNumber::Untold => return None,
+            NextNumber::Nothing => return Some(None),
+            NextNumber::At(number) => {
+                match find_with(state, stretch.column, number, gone, punct) {
+                    Some(found) => return Some(Some(found)),
+                    None => {}
+                }
+                match before(number) {
+                    None => return None,
+                    Some(last) => left.high = Some(last),
+                }
+            }
+        }
+    }
+    None
+}
+
+// The same, from the least of the integers up.
+fn find_upwards(state: &State, gone: &[u64], punct: &Punct, stretch: Stretch) -> Option<Option<u64>>
     requires indexed { In stretch.column state.now.columns }
     requires needs { NeedsAmong punct.now stretch.column stretch.numbers }
     requires rising { IsRising itself gone.now }

@@ -1,4 +1,4 @@
--- What an index tells of the least integer from one on, said of the rows.
+-- What an index tells of the least integer from one on, and of the greatest up to one, said of the rows.
 use Rattle.std.proofs.Common.{◌≡◌, ℕ, ℤ, zero, suc, ◌<◌, Bool, true, false, cond, List, [], ◌∷◌, Option, None, Some, length, filter, get_or, set, inl, inr, refl, ap, sym, ◌∙◌, subst, arith}
 use Rattle.std.specs.List.{slice_get}
 use Rattle.std.proofs.lemmas.Bool.{true≢false}
@@ -8,12 +8,14 @@ use Rattle.pj_value.specs.declared.values.Value.TheVariants.{Int}
 use Rattle.pj_value.proofs.Orders.{equal_itself, same_if_equal}
 use Rattle.pj_value.specs.Options.{is_value}
 use Rattle.pj_state.specs.Indexes.{IsIndexOf, IsKept, told}
-use Rattle.pj_state.specs.Least.{TellsLeast}
+use Rattle.pj_state.specs.Least.{TellsGreatest, TellsLeast, TellsNearest}
 use Rattle.pj_state.specs.Numbers.{has_tickets}
-use Rattle.pj_state.specs.Ordered.{HasNumber, IsNumberThere, TellsNext}
+use Rattle.pj_state.specs.Ordered.{HasNumber, IsNumberThere, TellsLast, TellsNearestRow, TellsNext}
 use Rattle.pj_state.specs.States.{has_value, tickets_of}
 use Rattle.pj_state.specs.declared.index.ValueIndex.{ValueIndex}
 use Rattle.pj_state.specs.declared.shared.Stored.{Stored}
+use Rattle.pj_state.specs.declared.state.Seek.{Seek}
+use Rattle.pj_state.specs.declared.state.Seek.TheVariants.{AtLeast, AtMost}
 use Rattle.pj_state.specs.declared.state.NextNumber.{NextNumber}
 use Rattle.pj_state.specs.declared.state.NextNumber.TheVariants.{Untold, Nothing, At}
 
@@ -58,12 +60,28 @@ tells-next column from rows index (At n) is h = record {
   least = λ s m i has q. h.least m (has-number column rows index s m is i has) q;
 }
 
-pub next-at : (columns : List ℕ) (column : ℕ) (from : Option ℤ) (rows : List Stored) (indexes : List ValueIndex) (at : ℕ) (index : ValueIndex) (r : NextNumber) → IsKept columns rows indexes → at < length columns
-    → get_or columns at 0 ≡ column → index ≡ get_or indexes at index → TellsLeast (λ n. has_tickets (told index (Int n))) from r → TellsNext column from rows r
-next-at columns column from rows indexes at index r kept lt e is h =
-    tells-next column from rows index r
-    (subst (λ (x : ValueIndex). IsIndexOf column rows x) (sym is) (subst (λ c. IsIndexOf c rows (get_or indexes at index)) e (kept.indexed.each at index (omega arith) lt)))
-    h
+-- the index of a column is that of the rows by this column
+index-of : (columns : List ℕ) (column : ℕ) (rows : List Stored) (indexes : List ValueIndex) (at : ℕ) (index : ValueIndex) → IsKept columns rows indexes → at < length columns → get_or columns at 0 ≡ column → index ≡ get_or indexes at index
+    → IsIndexOf column rows index
+index-of columns column rows indexes at index kept lt e is =
+    subst (λ (x : ValueIndex). IsIndexOf column rows x) (sym is) (subst (λ c. IsIndexOf c rows (get_or indexes at index)) e (kept.indexed.each at index (omega arith) lt))
+
+tells-last : (column : ℕ) (to : Option ℤ) (rows : List Stored) (index : ValueIndex) (r : NextNumber) → IsIndexOf column rows index → TellsGreatest (λ n. has_tickets (told index (Int n))) to r → TellsLast column to rows r
+tells-last column to rows index Untold is h = tt
+tells-last column to rows index Nothing is h = λ s n i has q. h n (has-number column rows index s n is i has) q
+tells-last column to rows index (At n) is h = record {
+  below = h.below;
+  there = number-there column rows index n is h.there;
+  greatest = λ s m i has q. h.greatest m (has-number column rows index s m is i has) q;
+}
+
+tells-nearest : (column : ℕ) (seek : Seek) (rows : List Stored) (index : ValueIndex) (r : NextNumber) → IsIndexOf column rows index → TellsNearest (λ n. has_tickets (told index (Int n))) seek r → TellsNearestRow column seek rows r
+tells-nearest column (AtLeast from) rows index r is h = tells-next column from rows index r is h
+tells-nearest column (AtMost to) rows index r is h = tells-last column to rows index r is h
+
+pub nearest-at : (columns : List ℕ) (column : ℕ) (seek : Seek) (rows : List Stored) (indexes : List ValueIndex) (at : ℕ) (index : ValueIndex) (r : NextNumber) → IsKept columns rows indexes → at < length columns
+    → get_or columns at 0 ≡ column → index ≡ get_or indexes at index → TellsNearest (λ n. has_tickets (told index (Int n))) seek r → TellsNearestRow column seek rows r
+nearest-at columns column seek rows indexes at index r kept lt e is h = tells-nearest column seek rows index r (index-of columns column rows indexes at index kept lt e is) h
 
 -- an item that is put where it stands changes nothing
 pub set-own : {A : Type 0} (xs : List A) (at : ℕ) (x y : A) → x ≡ get_or xs at x → y ≡ x → set xs at y ≡ xs

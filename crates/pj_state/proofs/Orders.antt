@@ -1,6 +1,14 @@
 -- An order that is made of the integers that have tickets.
-use Rattle.std.proofs.Common.{◌≡◌, ℕ, ℤ, suc, ◌+◌, ◌<◌, ◌≤◌, Bool, true, false, not, cond, List, [], ◌∷◌, Option, Some, length, get_or, refl, ap, sym, ◌∙◌, arith, inl, inr, ◌⊎◌}
-use Rattle.std.specs.BTreeSet.{BTreeSet, contains}
+use Rattle.std.proofs.Common.{◌≡◌, ℕ, ℤ, suc, ◌+◌, ◌<◌, ◌≤◌, Bool, true, false, not, cond, List, [], ◌∷◌, Option, Some, ◌++◌, length, get_or, refl, ap, sym, ◌∙◌, arith, inl, inr, ◌⊎◌, ◌≤ℤ◌, ◌<ℤ◌}
+use Rattle.std.specs.BTreeMap.Range.{IsLeBy}
+use Rattle.std.specs.BTreeSet.{BTreeSet, IsKeyRangeOf, contains}
+use Rattle.std.specs.Cmp.{int_ranks}
+use Rattle.std.specs.Ordering.{MatchOrdering, is_gt, is_lt}
+use Rattle.std.specs.declared.cmp.Ordering.{Ordering}
+use Rattle.std.specs.declared.cmp.Ordering.TheVariants.{Less, Equal, Greater}
+use Rattle.std.specs.declared.ops.Bound.TheVariants.{Unbounded, Included}
+use Rattle.std.proofs.lemmas.Int.{ints}
+use Rattle.pj_state.specs.Least.{IsGreatest}
 use Rattle.std.specs.List.{slice_get}
 use Rattle.std.specs.Map.{lookup}
 use Rattle.std.specs.Ordering.{int_cmp, int_eq}
@@ -91,3 +99,37 @@ entry-has entries n ts shown b is same e = ap (λ (o : Option (List ℕ)). has_t
     twice : (a : Bool) → a ≡ not (not a)
     twice true = refl
     twice false = refl
+
+-- the last one of the integers of an order up to one
+pub last-greatest : (order : BTreeSet ℤ) (to n : ℤ) (up before : List ℤ) → IsKeyRangeOf int_cmp Unbounded (Included to) order up → up ≡ before ++ n ∷ [] → IsGreatest (contains int_cmp order) (Some to) n
+last-greatest order to n up before range is =
+    let own = range.3 n before is in
+    record {
+      below = at-most n to own.0.1;
+      there = own.1;
+      greatest = λ m there le. at-least n m (range.4 n before is m (tt, le-by m to le) there);
+    }
+  where
+    at-most : (a b : ℤ) → IsLeBy int_cmp a b → a ≤ℤ b
+    at-most a b h = go (int_cmp a b) (int_ranks a b) h
+      where
+        go : (o : Ordering) → MatchOrdering o (a <ℤ b) (a ≡ b) (b <ℤ a) → is_gt o ≡ false → a ≤ℤ b
+        go Less m q = omega (arith, ints, m)
+        go Equal m q = omega (arith, ints, m)
+        go Greater m q = absurd (true≢false q)
+
+    at-least : (a b : ℤ) → is_lt (int_cmp a b) ≡ false → b ≤ℤ a
+    at-least a b h = go (int_cmp a b) (int_ranks a b) h
+      where
+        go : (o : Ordering) → MatchOrdering o (a <ℤ b) (a ≡ b) (b <ℤ a) → is_lt o ≡ false → b ≤ℤ a
+        go Less m q = absurd (true≢false q)
+        go Equal m q = omega (arith, ints, m)
+        go Greater m q = omega (arith, ints, m)
+
+    le-by : (a b : ℤ) → a ≤ℤ b → IsLeBy int_cmp a b
+    le-by a b h = go (int_cmp a b) (int_ranks a b)
+      where
+        go : (o : Ordering) → MatchOrdering o (a <ℤ b) (a ≡ b) (b <ℤ a) → is_gt o ≡ false
+        go Less m = refl
+        go Equal m = refl
+        go Greater m = absurd (omega (arith, ints, m, h))

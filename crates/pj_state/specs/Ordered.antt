@@ -3,6 +3,8 @@ use Rattle.std.specs.Prelude.{◌≡◌, ℕ, ℤ, ◌≤ℤ◌, List, Option, S
 use Rattle.pj_value.specs.declared.values.Value.TheVariants.{Int}
 use Rattle.pj_value.specs.Lists.{In}
 use Rattle.pj_state.specs.declared.shared.Stored.{Stored}
+use Rattle.pj_state.specs.declared.state.Seek.{Seek}
+use Rattle.pj_state.specs.declared.state.Seek.TheVariants.{AtLeast, AtMost}
 use Rattle.pj_state.specs.declared.state.NextNumber.{NextNumber}
 use Rattle.pj_state.specs.declared.state.NextNumber.TheVariants.{Untold, Nothing, At}
 
@@ -33,8 +35,38 @@ pub record IsNextNumber (column : ℕ) (from : Option ℤ) (n : ℤ) (rows : Lis
   pub there : IsNumberThere column n rows
   pub least : NoneBetween column from n rows
 
+-- the integer is at most this one; where none is named, each is
+abbrev pub IsUpTo : Option ℤ → ℤ → Type 0
+IsUpTo None n = Unit {0}
+IsUpTo (Some to) n = n ≤ℤ to
+
+-- each integer that a row has in this column up to the first of these two is at most the second
+abbrev pub NoneAbove : ℕ → Option ℤ → ℤ → List Stored → Type 0
+NoneAbove column to last rows = (s : Stored) (n : ℤ) → In s rows → HasNumber column n s → IsUpTo to n → n ≤ℤ last
+
+-- no row has an integer in this column up to this one
+abbrev pub NoneUpTo : ℕ → Option ℤ → List Stored → Type 0
+NoneUpTo column to rows = (s : Stored) (n : ℤ) → In s rows → HasNumber column n s → IsUpTo to n → ⊥
+
+-- this is the greatest integer up to one that a row has in this column
+pub record IsLastNumber (column : ℕ) (to : Option ℤ) (n : ℤ) (rows : List Stored) : Type 0 where
+  pub below : IsUpTo to n
+  pub there : IsNumberThere column n rows
+  pub greatest : NoneAbove column to n rows
+
+-- what is told of the greatest integer up to one that a row has in this column
+abbrev pub TellsLast : ℕ → Option ℤ → List Stored → NextNumber → Type 0
+TellsLast column to rows Untold = Unit {0}
+TellsLast column to rows Nothing = NoneUpTo column to rows
+TellsLast column to rows (At n) = IsLastNumber column to n rows
+
 -- what is told of the least integer from one on that a row has in this column
 abbrev pub TellsNext : ℕ → Option ℤ → List Stored → NextNumber → Type 0
 TellsNext column from rows Untold = Unit {0}
 TellsNext column from rows Nothing = NoneFrom column from rows
 TellsNext column from rows (At n) = IsNextNumber column from n rows
+
+-- what is told of the integer that is sought and that a row has in this column
+abbrev pub TellsNearestRow : ℕ → Seek → List Stored → NextNumber → Type 0
+TellsNearestRow column (AtLeast from) rows r = TellsNext column from rows r
+TellsNearestRow column (AtMost to) rows r = TellsLast column to rows r

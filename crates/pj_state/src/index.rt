@@ -7,13 +7,13 @@ ghost use Rattle.pj_value.specs.declared.values.Value.TheVariants.{Int};
 ghost use Rattle.pj_state.specs.Rising.{IsRising, itself};
 ghost use Rattle.pj_state.specs.Keys.{same_text, text_key};
 ghost use Rattle.pj_state.specs.Indexes.{HasFewer, HasMore, HasMoreAt, HasSame, HasSameAt, TakesAt, told, told_at};
-ghost use Rattle.pj_state.specs.Least.{TellsLeast};
+ghost use Rattle.pj_state.specs.Least.{TellsNearest};
 ghost use Rattle.pj_state.specs.Numbers.{has_tickets};
 
-use crate::NextNumber;
 use crate::numbers::{Numbers, listed};
 use crate::texts::{LentText, TextKey};
 use crate::tickets::Tickets;
+use crate::{NextNumber, Seek};
 use indexmap::IndexMap;
 use pj_value::{NoMemory, SharedText, Value};
 use std::alloc::Global;
@@ -80,11 +80,11 @@ impl ValueIndex {
         self.numbers.keep_order(alloc);
     }
 
-    /// The least integer from one on, or of all, that has tickets; untold where no order is kept.
-    pub fn next_number(&self, from: Option<i64>) -> NextNumber
-        ensures { TellsLeast (λ n. has_tickets (told self.now (Int n))) from result }
+    /// The nearest integer that is sought and has tickets; untold where no order is kept.
+    pub fn nearest_number(&self, seek: Seek) -> NextNumber
+        ensures { TellsNearest (λ n. has_tickets (told self.now (Int n))) seek result }
     {
-        self.numbers.next_number(from)
+        self.numbers.nearest(seek)
     }
 }
 

@@ -18,4 +18,4 @@ pub use cursor::Cursor;
 pub use matching::{Matching, Spot};
 pub use remaining::Remaining;
 pub use shared::{Shared, Stored};
-pub use state::{NextNumber, State};
+pub use state::{NextNumber, Seek, State};

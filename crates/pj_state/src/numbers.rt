@@ -4,11 +4,11 @@ ghost use Rattle.std.specs.BTreeSet.{contains};
 ghost use Rattle.std.specs.Option.{option_copied};
 ghost use Rattle.std.specs.Ordering.{int_cmp, int_eq};
 ghost use Rattle.pj_state.specs.Indexes.{HasMoreAt, HasSameAt, TakesAt, told_at};
-ghost use Rattle.pj_state.specs.Least.{TellsLeast};
+ghost use Rattle.pj_state.specs.Least.{TellsNearest};
 ghost use Rattle.pj_state.specs.Numbers.{IsGone, IsOrder, IsPut, Passes, are_there, has_tickets, listed, number_tickets};
 
-use crate::NextNumber;
 use crate::tickets::Tickets;
+use crate::{NextNumber, Seek};
 use indexmap::IndexMap;
 use pj_value::NoMemory;
 use std::alloc::Global;
@@ -86,13 +86,13 @@ impl Numbers {
         }
     }
 
-    /// The least integer from one on, or of all, that has tickets; untold where no order is kept.
-    pub fn next_number(&self, from: Option<i64>) -> NextNumber
-        ensures { TellsLeast (are_there (number_tickets self.now)) from result }
+    /// The nearest integer that is sought and has tickets; untold where no order is kept.
+    pub fn nearest(&self, seek: Seek) -> NextNumber
+        ensures { TellsNearest (are_there (number_tickets self.now)) seek result }
     {
         match &self.order {
             None => NextNumber::Untold,
-            Some(order) => least(order, from),
+            Some(order) => nearest(order, seek),
         }
     }
 }
@@ -209,18 +209,30 @@ fn order_of(alloc: Global, numbers: &IndexMap<i64, Tickets>) -> Result<BTreeSet<
     Ok(order)
 }
 
-// The least integer of an order from one on, or of all.
-fn least(order: &BTreeSet<i64>, from: Option<i64>) -> NextNumber
-    ensures { TellsLeast (contains int_cmp order.now) from result }
+// The nearest integer of an order that is sought.
+fn nearest(order: &BTreeSet<i64>, seek: Seek) -> NextNumber
+    ensures { TellsNearest (contains int_cmp order.now) seek result }
 {
-    match from {
-        None => match order.first() {
-            None => NextNumber::Nothing,
-            Some(number) => NextNumber::At(*number),
+    match seek {
+        Seek::AtLeast(from) => match from {
+            None => match order.first() {
+                None => NextNumber::Nothing,
+                Some(number) => NextNumber::At(*number),
+            },
+            Some(from) => match order.range(from..).next() {
+                None => NextNumber::Nothing,
+                Some(number) => NextNumber::At(*number),
+            },
         },
-        Some(from) => match order.range(from..).next() {
-            None => NextNumber::Nothing,
-            Some(number) => NextNumber::At(*number),
+        Seek::AtMost(to) => match to {
+            None => match order.last() {
+                None => NextNumber::Nothing,
+                Some(number) => NextNumber::At(*number),
+            },
+            Some(to) => match order.range(..=to).next_back() {
+                None => NextNumber::Nothing,
+                Some(number) => NextNumber::At(*number),
+            },
         },
     }
 }

@@ -7,7 +7,7 @@ ghost use Rattle.pj_value.specs.Lists.{In};
 ghost use Rattle.pj_state.specs.Rising.{IsRising, without};
 ghost use Rattle.pj_state.specs.States.{pairs, row_under, rows_below, rows_with, state_of, stored, ticket_of, tickets_of};
 ghost use Rattle.pj_state.specs.Indexes.{IndexesFewer, IndexesMore, IndexesSame, IsKept, SameBehind};
-ghost use Rattle.pj_state.specs.Ordered.{TellsNext};
+ghost use Rattle.pj_state.specs.Ordered.{TellsNearestRow};
 
 use crate::index::ValueIndex;
 use crate::shared::{Shared, Stored};
@@ -27,8 +27,15 @@ pub struct State {
     indexes: Vec<ValueIndex>,
 }
 
-/// What an order of the integers of a column tells of the least one from some integer on: nothing, where no order is kept;
-/// that there is none; or which it is.
+/// Which integer is sought: the least from one on, or the greatest up to one; where none is named, the least or greatest of all.
+#[derive(Clone, Copy)]
+pub enum Seek {
+    AtLeast(Option<i64>),
+    AtMost(Option<i64>),
+}
+
+/// What an order of the integers of a column tells of the one that is sought: nothing, where no order is kept; that there is
+/// none; or which it is.
 #[derive(Clone, Copy, Debug, PartialEq, Eq)]
 pub enum NextNumber {
     Untold,
@@ -192,16 +199,16 @@ impl State {
         keep_order_in(self.alloc, columns, &mut self.indexes, column);
     }
 
-    /// The least integer from one on, or of all, that a row has in a column, which was named to `new`. Takes no memory.
+    /// The nearest integer that is sought and that a row has in a column, which was named to `new`. Takes no memory.
     ///
     /// It is told where `keep_order` was called for the column and memory was there.
-    pub fn next_number(&self, column: u32, from: Option<i64>) -> NextNumber
+    pub fn nearest_number(&self, column: u32, seek: Seek) -> NextNumber
         requires { In column self.now.columns }
-        ensures { TellsNext column from self.now.rows result }
+        ensures { TellsNearestRow column seek self.now.rows result }
     {
         for (at, named) in self.columns.as_slice().iter().enumerate() {
             if column == *named {
-                return self.indexes[at].next_number(from);
+                return self.indexes[at].nearest_number(seek);
             }
         }
         NextNumber::Untold

@@ -2,7 +2,7 @@
 ghost use Rattle.std.specs.Prelude.{◌≡◌, ◌<◌, All, IfOk, IfSome, IsTrue, [], ◌∷◌, length};
 ghost use Rattle.pj_value.specs.Lists.{In};
 
-use pj_state::{Matching, NextNumber, Shared, Spot, State};
+use pj_state::{Matching, NextNumber, Seek, Shared, Spot, State};
 use pj_value::{List, NoMemory, Row, SharedText, Value};
 use std::alloc::Global;
 
@@ -204,12 +204,32 @@ fn next_in(list: &[Plain], from: i64, is_kept: bool) -> NextNumber {
     }
 }
 
-// Whether the state tells the next integer from one on, and of all, as the list does.
+// The greatest integer of the list up to one; untold where no order is kept.
+fn last_in(list: &[Plain], to: i64, is_kept: bool) -> NextNumber {
+    if !is_kept {
+        return NextNumber::Untold;
+    }
+    let mut greatest = i64::MIN;
+    for plain in list {
+        if plain.number <= to {
+            greatest = greatest.max(plain.number);
+        }
+    }
+    if greatest == i64::MIN {
+        NextNumber::Nothing
+    } else {
+        NextNumber::At(greatest)
+    }
+}
+
+// Whether the state tells the nearest integers above and below one, the least and the greatest as the list does.
 fn tells(state: &State, list: &[Plain], from: i64, is_kept: bool) -> bool
     requires { state.now.columns ≡ 0 ∷ 1 ∷ [] }
 {
-    state.next_number(0, Some(from)) == next_in(list, from, is_kept)
-        && state.next_number(0, None) == next_in(list, i64::MIN, is_kept)
+    state.nearest_number(0, Seek::AtLeast(Some(from))) == next_in(list, from, is_kept)
+        && state.nearest_number(0, Seek::AtLeast(None)) == next_in(list, i64::MIN, is_kept)
+        && state.nearest_number(0, Seek::AtMost(Some(from))) == last_in(list, from, is_kept)
+        && state.nearest_number(0, Seek::AtMost(None)) == last_in(list, i64::MAX, is_kept)
 }
 
 // Whether each row is the same one where it is looked for near the last.

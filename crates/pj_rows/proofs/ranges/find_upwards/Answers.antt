@@ -7,7 +7,7 @@ use Rattle.pj_state.specs.States.{rows_with}
 use Rattle.pj_rows.specs.Finding.{IsFound, still_held}
 use Rattle.pj_rows.proofs.Found.{found_with}
 use Rattle.pj_rows.proofs.Ranged.{stay_more, stay_none}
-use Rattle.pj_rows.proofs.ranges.find_among.Goals as goal
+use Rattle.pj_rows.proofs.ranges.find_upwards.Goals as goal
 
 pub returns-in-Nothing : goal.returns-in-Nothing
 returns-in-Nothing c = stay_none c.args.stretch.column c.args.stretch.numbers c.loop.left c.args.state.now.rows c.args.gone.now c.args.punct.now c.requires.needs c.loop.invariant.0 c.loop.invariant.1 c.in-Nothing.ensures
