@@ -1,12 +1,14 @@
 -- The tuples that are passed over are not ripe, from step to step.
-use Rattle.std.proofs.Common.{ℕ, zero, suc, ◌+◌, ◌<◌, ◌≤◌, Bool, true, false, cond, not, ◌&&◌, ◌||◌, List, [], ◌∷◌, ◌++◌, ◌≡◌, ap₂, map, length, get_or, set, refl, sym, ap, ◌∙◌, subst, inl, inr, eqb, ltb, arith}
+use Rattle.std.proofs.Common.{ℕ, zero, suc, ◌+◌, ◌<◌, ◌≤◌, Bool, true, false, cond, not, ◌&&◌, ◌||◌, List, [], ◌∷◌, ◌++◌, Option, ◌≡◌, ap₂, map, length, get_or, set, refl, sym, ap, ◌∙◌, subst, inl, inr, eqb, ltb, arith}
 use Rattle.std.specs.List.{list_all, list_any}
 use Rattle.std.proofs.lemmas.Bool.{and_parts, and_right, eq-eqb, eqb-true, false_from_ne_true, false≢true, lt-ltb, ltb-true}
 use Rattle.std.proofs.lemmas.List.{length-append}
 use Rattle.pj_value.proofs.Members.{In-append_cases, In-append_left, In-filter, In-filter_from, In-flat_map_from, In-map_from, all_at}
 use Rattle.pj_state.specs.declared.shared.Stored.{Stored}
 use Rattle.pj_state.specs.States.{StateView}
-use Rattle.pj_puncts.specs.Stores.{Store}
+use Rattle.pj_value.specs.declared.values.Value.{Value}
+use Rattle.pj_puncts.specs.Stores.{Store, covered_by_any}
+use Rattle.pj_cover.proofs.Below.{covered_by_own_any}
 use Rattle.pj_cover.specs.Asking.{IsAsked, known_of, puncts_from, tuples_of, AsksStill}
 use Rattle.pj_rows.proofs.Agreeing.{need_alone}
 use Rattle.pj_events.specs.Patterns.{covers}
@@ -19,13 +21,13 @@ use Rattle.pj_recheck.specs.Judging.{JudgeView, ripe_at}
 use Rattle.pj_join.specs.Sides.{log_of, puncts_of}
 use Rattle.pj_rows.specs.Tuples.{row_pairs, state_at, tuple_in}
 use Rattle.pj_join.specs.Sweeping.{swept_off}
-use Rattle.pj_recheck.specs.Watching.{AreFewer, AreLeft, AreLookedAt, AreRoused, AreStored, PunctView, NoneIsRipe, come_at, is_passed, known, watches_at}
+use Rattle.pj_recheck.specs.Watching.{AreFewer, AreLeftBeside, AreLookedAt, AreRoused, AreStored, PunctView, NoneIsRipe, come_at, is_passed, known, watches_at}
 use Rattle.pj_join.specs.Watched.{AreOpenBut, AreWatched}
 use Rattle.pj_recheck.specs.declared.marks.DueRechecks.{DueRechecks}
 use Rattle.pj_recheck.proofs.Woken.{at-place, at-set, by-place, set-count}
 use Rattle.pj_waiting.proofs.Holding.{filter-none}
 use Rattle.pj_join.proofs.Judged.{covered-all-of, judge_at, ripe-is, same-puncts, same-rows}
-use Rattle.pj_join.proofs.Kept.{shapes, side-is}
+use Rattle.pj_join.proofs.Kept.{all-punct_stores, shapes, side-is}
 
 module _ (spec : JoinData) where
   pub watched_start : (ws : List DueRechecks) → length ws ≡ inputs spec → ((input : ℕ) → (watches_at ws input).from ≡ 0) → AreWatched spec 0 0 [] [] ws
@@ -78,7 +80,7 @@ module _ (spec : JoinData) where
   -- a punctuation that covers nothing of what is asked for
   still-both : (stored : List TupleAt) (row_states : List StateView) (low : ℕ) (cert : List CertEntry) (puncts : List PunctAt) (p : PunctAt) (x : TupleAt)
       → ((y : TupleAt) → In y stored → (s : Stored) × In s (state_at row_states y.input).rows × (tuple_in y.input s ≡ y))
-      → ((rows : List TupleAt) (asks : Demand) → AreStored row_states rows → IsAsked spec.shape.classes cert rows (x ∷ []) asks → covered (p ∷ []) asks ≡ false)
+      → ((rows : List TupleAt) (asks : Demand) → AreStored row_states rows → IsAsked spec.shape.classes cert rows (x ∷ []) asks → covered puncts asks ≡ false → covered (p ∷ []) asks ≡ false)
       → AsksStill (known spec.shape.classes stored puncts low) cert x → AsksStill (known spec.shape.classes stored (puncts ++ p ∷ []) low) cert x
   still-both stored row_states low cert puncts p x row left (rows, asks, by) = (
     rows,
@@ -87,7 +89,7 @@ module _ (spec : JoinData) where
       there = by.there;
       below = by.below;
       asked = by.asked;
-      uncovered = any-append (λ q. eqb q.input asks.input && covers q.patterns asks.instance) puncts (p ∷ []) by.uncovered (left rows asks (λ y h. row y (by.there y h)) by.asked);
+      uncovered = any-append (λ q. eqb q.input asks.input && covers q.patterns asks.instance) puncts (p ∷ []) by.uncovered (left rows asks (λ y h. row y (by.there y h)) by.asked by.uncovered);
     },
   )
 
@@ -104,7 +106,7 @@ module _ (spec : JoinData) where
         found (s ∷ rows) (inr k) = let r = found rows k in (r.0, inr r.1, r.2)
 
     -- a punctuation comes
-    pub watched_punct : (ws ws' : List DueRechecks) (low low' : ℕ) (come : PunctView) (ticket : ℕ) → AreFewer ws ws' → AreLeft spec row_states come ws' (length ws) → low ≤ low' → AreWatched spec next low log (puncts_of punct_stores) ws
+    pub watched_punct : (ws ws' : List DueRechecks) (low low' : ℕ) (come : PunctView) (ticket : ℕ) → AreFewer ws ws' → AreLeftBeside spec row_states (puncts_of punct_stores) come ws' (length ws) → low ≤ low' → AreWatched spec next low log (puncts_of punct_stores) ws
         → AreWatched spec (next + 1) low' log (puncts_of punct_stores ++ come_at come ticket ∷ []) ws'
     watched_punct ws ws' low low' come ticket f left le w = record {
       count = f.count ∙ w.count;
@@ -118,11 +120,24 @@ module _ (spec : JoinData) where
         within x h = let l = j.ordered.placed x h in let c : length ws ≡ inputs spec = w.count in omega (arith, l, c, shapes spec limit next done row_states punct_stores pending taken j)
 
         new : (x : TupleAt) → In x log → is_passed (watches_at ws' x.input) x.ticket ≡ true → (rows : List TupleAt) (asks : Demand) → AreStored row_states rows → IsAsked spec.shape.classes (cert_of spec x.input) rows (x ∷ []) asks
-            → covered (come_at come ticket ∷ []) asks ≡ false
-        new x h t rows asks stored asked =
+            → covered (puncts_of punct_stores) asks ≡ false → covered (come_at come ticket ∷ []) asks ≡ false
+        new x h t rows asks stored asked none =
             let s = in-row x h in
             left x.input (within x h) ticket s.0 s.1 (ap (λ (y : TupleAt). is_passed (watches_at ws' x.input) y.ticket) s.2 ∙ t) rows asks stored
-            (subst (λ (y : TupleAt). IsAsked spec.shape.classes (cert_of spec x.input) rows (y ∷ []) asks) (sym s.2) asked)
+            (subst (λ (y : TupleAt). IsAsked spec.shape.classes (cert_of spec x.input) rows (y ∷ []) asks) (sym s.2) asked) none
+
+    covered-all : (d : Demand) → covered (puncts_from 0 punct_stores) d ≡ covered (puncts_of punct_stores) d
+    covered-all d =
+        covered-all-of d (puncts_from 0 punct_stores)
+        ∙ ap (list_any (λ p. covers p.patterns d.instance)) (same-puncts spec limit next done row_states punct_stores pending taken j d.input)
+        ∙ sym (covered-all-of d (puncts_of punct_stores))
+
+    -- what a punctuation of an input's store covers is covered
+    pub covered_there : (input : ℕ) (store : Store) → input < inputs spec → store ≡ get_or punct_stores input store → (instance : List (Option Value)) → covered_by_any store.kept instance ≡ true
+        → covered (puncts_of punct_stores) (record { input = input; instance = instance }) ≡ true
+    covered_there input store lt is instance t =
+        sym (covered-all (record { input = input; instance = instance }))
+        ∙ (covered_by_own_any punct_stores input instance store (omega (arith, lt, all-punct_stores spec limit next done row_states punct_stores pending taken j)) ∙ (ap (λ (s : Store). covered_by_any s.kept instance) (sym is) ∙ t))
 
     -- ---- what is passed over is not ripe
 
@@ -197,12 +212,6 @@ module _ (spec : JoinData) where
 
                   passed : is_passed (watches_at ws x.input) x.ticket ≡ true
                   passed = ap (λ i. is_passed (watches_at ws i) x.ticket) of ∙ ap₂ (λ a (ms : List ℕ). a && not (has ms x.ticket)) (lt-ltb x.ticket (watches_at ws input).from lower) unmarked
-
-      covered-all : (d : Demand) → covered (puncts_from 0 punct_stores) d ≡ covered (puncts_of punct_stores) d
-      covered-all d =
-          covered-all-of d (puncts_from 0 punct_stores)
-          ∙ ap (list_any (λ p. covers p.patterns d.instance)) (same-puncts spec limit next done row_states punct_stores pending taken j d.input)
-          ∙ sym (covered-all-of d (puncts_of punct_stores))
 
       in-stored : (y : TupleAt) → In y (tuples_of (row_pairs row_states) (length spec.shape.inputs)) → In y log
       in-stored y h =

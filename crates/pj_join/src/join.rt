@@ -26,8 +26,7 @@ use pj_pattern::Punct;
 use pj_probe::{Probe, ProbeRoute, hand_out_found, probe_of, probe_routes, route_of};
 use pj_puncts::PunctStore;
 use pj_recheck::{
-    Certified, DueRechecks, InputRoutes, Judge, keep_orders, mark_covered, mark_dependents,
-    routes_of,
+    Certified, DueRechecks, InputRoutes, Judge, keep_orders, mark_added, mark_dependents, routes_of,
 };
 use pj_shape::{Cert, JoinSpec, Schemes};
 use pj_state::{Remaining, Shared, State};
@@ -207,11 +206,12 @@ impl Join {
             return Err(JoinStop::Limit);
         }
         let ticket = self.next;
-        mark_covered(
+        mark_added(
             self.alloc,
             &mut self.due,
             self.rechecks[input as usize].recheck.as_slice(),
             self.row_states.as_slice(),
+            &self.punct_stores[input as usize],
             &punct,
         )?;
         receive(

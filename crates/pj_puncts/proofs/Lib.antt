@@ -5,6 +5,7 @@ pub mod Columns
 pub mod Covering
 pub mod Filing
 pub mod Firsts
+pub mod Last
 pub mod Lent
 pub mod Lookups
 pub mod Numbered

@@ -3,7 +3,8 @@ use Rattle.std.specs.Prelude.{◌≡◌, ◌≤◌, ◌<◌, ◌⊎◌, ℕ, ⊤
 use Rattle.std.specs.List.{list_any}
 use Rattle.pj_value.specs.declared.values.Value.{Value}
 use Rattle.pj_pattern.specs.Columns.{matches_row}
-use Rattle.pj_events.specs.Patterns.{covers}
+use Rattle.pj_value.specs.Lists.{In}
+use Rattle.pj_events.specs.Patterns.{Pattern, covers}
 use Rattle.pj_puncts.specs.declared.store.NumberedPunct.{NumberedPunct}
 
 -- the number of columns, and the punctuations in order of their numbers
@@ -25,6 +26,10 @@ AreRising (k ∷ ks) = AllAbove k.number ks × AreRising ks
 abbrev pub IsAbove : ℕ → List NumberedPunct → Type 0
 IsAbove n [] = ⊤
 IsAbove n (k ∷ ks) = (k.number < n) × IsAbove n ks
+
+-- the punctuation is one of these
+abbrev pub IsOneOf : List NumberedPunct → List Pattern → Type 0
+IsOneOf kept patterns = (number : ℕ) × In (record { punct = patterns; number = number }) kept
 
 -- the number of the first punctuation that the row matches
 abbrev pub first_match_of : List NumberedPunct → List Value → Option ℕ

@@ -1,5 +1,6 @@
 // An index of punctuations by their forms.
 ghost use Rattle.std.specs.Prelude.{◌≡◌, ◌<◌, ◌≤◌, ◌+◌, [], true, None, IfOk, IfSome, OnOk, OnErr, length, map, slice_get};
+ghost use Rattle.pj_puncts.specs.Stores.{IsOneOf};
 ghost use Rattle.pj_puncts.specs.Indexed.{AreChained, AreLed, ChainTakes, ChainsTake, ColumnsStay, ColumnsTake, FitsAt, Grows, IsChained, IsColumnFor, IsCovering, IsFiled, IsFilled, IsInSets, IsInSlot, IsIndexed, IsLeastOfColumns, IsOfColumn, IsSetFor, IsUnfiled, covered_in, covers_in, first_at, first_covering, fits_mark, fits_marks, is_constant, least, least_of_chains, least_of_sets, number_at, number_under, slot};
 
 use crate::cells::{Cells, constants_hash};
@@ -86,6 +87,29 @@ impl Index {
             }
         }
         None
+    }
+
+    /// The last watermark that bounds the column of this one at the same end; `None` where there is none, or it is no watermark.
+    pub fn last_like<'a>(
+        &self,
+        kept: &'a [NumberedPunct],
+        patterns: &[Pattern],
+    ) -> Option<&'a Punct>
+        ensures { IfSome result (λ last. IsOneOf kept.now last.now) }
+    {
+        match watermark(patterns) {
+            None => None,
+            Some((column, has_low)) => match chain_for(self.chains.as_slice(), column, has_low) {
+                None => None,
+                Some(place) => match self.chains[place].places.as_slice().last() {
+                    None => None,
+                    Some(at) => match kept.get(*at) {
+                        None => None,
+                        Some(one) => Some(&one.punct),
+                    },
+                },
+            },
+        }
     }
 
     /// Takes in the punctuation at the last place. On a refusal the index is still that of those before.
@@ -538,8 +562,8 @@ fn file_in_columns(
     }
 }
 
-// The only column without a wildcard.
-fn only_filled(patterns: &[Pattern]) -> Option<usize>
+/// The only column without a wildcard.
+pub fn only_filled(patterns: &[Pattern]) -> Option<usize>
     ensures { IfSome result (IsFilled patterns.now) }
 {
     let column = first_filled(patterns);

@@ -12,5 +12,6 @@ mod store;
 
 pub use cells::Cells;
 pub use given::Given;
+pub use index::only_filled;
 pub use one_cell::{OneCell, only_mark};
 pub use store::{NumberedPunct, PunctStore};

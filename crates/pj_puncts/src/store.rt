@@ -1,9 +1,9 @@
 // A store of punctuations with numbers.
-ghost use Rattle.std.specs.Prelude.{◌≡◌, ◌<◌, ◌+◌, [], ◌∷◌, ◌++◌, length, IfOk, OnOk, OnErr};
+ghost use Rattle.std.specs.Prelude.{◌≡◌, ◌<◌, ◌+◌, [], ◌∷◌, ◌++◌, length, IfOk, IfSome, OnOk, OnErr};
 ghost use Rattle.pj_puncts.specs.Givens.{marked};
 ghost use Rattle.pj_puncts.specs.Indexed.{is_below};
 ghost use Rattle.pj_puncts.specs.Numbers.{numbers_with};
-ghost use Rattle.pj_puncts.specs.Stores.{TellsCover, covered_below, first_match_of, IsAbove, IsLeastMatch};
+ghost use Rattle.pj_puncts.specs.Stores.{TellsCover, covered_below, first_match_of, IsAbove, IsLeastMatch, IsOneOf};
 ghost use Rattle.pj_shape.specs.Instances.{instance_of};
 
 use crate::Given;
@@ -81,6 +81,15 @@ impl PunctStore {
                 Err(stop)
             }
         }
+    }
+
+    /// The last watermark that came and bounds the same column at the same end; `None` where there is none, or the punctuation
+    /// is no watermark: a range with one end in a column, and wildcards elsewhere.
+    pub fn last_like(&self, punct: &Punct) -> Option<&Punct>
+        ensures { IfSome result (λ last. IsOneOf self.now.kept last.now) }
+    {
+        self.index
+            .last_like(self.others.as_slice(), punct.as_slice())
     }
 
     /// The least number of a punctuation that the row matches; `None` exactly where there is none.

@@ -1,3 +1,4 @@
+pub mod Adding
 pub mod Backward
 pub mod Compiled
 pub mod Elsewhere

@@ -1,23 +1,28 @@
 -- What routes find.
-use Rattle.std.proofs.Common.{ℕ, zero, suc, ◌+◌, ◌<◌, ◌≤◌, Bool, true, false, List, [], ◌∷◌, ◌++◌, ◌≡◌, ◌⊎◌, Option, Some, None, IfSome, Ok, Err, Result, OnOk, length, get_or, set, take, refl, sym, ap, ap₂, ◌∙◌, subst, inl, inr, eqb, arith}
+use Rattle.std.proofs.Common.{ℕ, zero, suc, ◌+◌, ◌<◌, ◌≤◌, Bool, true, false, ◌&&◌, ◌||◌, List, [], ◌∷◌, ◌++◌, ◌≡◌, ◌⊎◌, Option, Some, None, IfSome, Ok, Err, Result, OnOk, length, get_or, set, take, refl, sym, ap, ap₂, ◌∙◌, subst, inl, inr, eqb, arith}
 use Rattle.std.specs.List.{slice_get}
-use Rattle.std.proofs.lemmas.Bool.{eq-eqb, eqb-true, false≢true}
+use Rattle.std.proofs.lemmas.Bool.{and_from, and_parts, eq-eqb, eqb-true, false≢true}
 use Rattle.std.proofs.lemmas.List.{take_all, take_more}
 use Rattle.pj_value.specs.declared.values.Value.{Value}
 use Rattle.pj_value.proofs.Members.{In-append_cases, in-place}
 use Rattle.pj_state.specs.States.{StateView, rows_with, tickets_of}
-use Rattle.pj_events.specs.Patterns.{Pattern}
-use Rattle.pj_events.specs.Join.{CertEntry, ClassCol, In, JoinData, TupleAt, cert_of, has, inputs}
+use Rattle.pj_events.specs.Patterns.{Pattern, covers}
+use Rattle.pj_events.specs.Join.{CertEntry, ClassCol, Demand, In, JoinData, PunctAt, TupleAt, cert_of, covered, has, inputs}
 use Rattle.pj_recheck.specs.declared.routes.Lead.{Lead}
 use Rattle.pj_recheck.specs.declared.routes.Way.{Way}
 use Rattle.pj_recheck.specs.declared.routes.Stop.{Stop}
 use Rattle.pj_recheck.specs.declared.routes.RecheckRoute.{RecheckRoute}
 use Rattle.pj_recheck.specs.declared.routes.BackRoute.{BackRoute}
 use Rattle.pj_recheck.specs.declared.routes.InputRoutes.{InputRoutes}
+use Rattle.pj_recheck.specs.Added.{IsAdded}
+use Rattle.pj_puncts.specs.Stores.{covered_by_any}
+use Rattle.pj_recheck.specs.declared.added.Added.{Added}
+use Rattle.pj_recheck.specs.declared.added.Added.TheVariants.{Nothing, Part, Whole}
+use Rattle.pj_puncts.specs.declared.store.NumberedPunct.{NumberedPunct}
 use Rattle.pj_rows.specs.Ranges.{HoldTrue}
 use Rattle.pj_rows.specs.Tuples.{AreWide, state_at}
-use Rattle.pj_recheck.specs.Recheck.{AreKeyed, AreLeads, AreRoutes, BackLeaves, BacksFit, BacksLeave, HasKey, HasLimit, IsWay, LeadTo, LeadsFit, LeadsIn, LeavesBackOwner, LeavesOwner, RouteFinds, RouteFits, RouteLeaves, RoutesFit, RoutesLeave, StopFinds, StopFits, StopsFind, StopsFit, WayFits, WayLeads, entry_on, routes_at}
-use Rattle.pj_recheck.specs.Watching.{AreAside, AreFewer, AreLeft, AreRoused, CoverageView, IsAsideAt, IsFewer, IsKey, IsLeftBy, IsUnmet, LeadsBack, Limits, PathView, PunctView, SideView, asker, is_wild_elsewhere, side_at, watches_at}
+use Rattle.pj_recheck.specs.Recheck.{AddedLeaves, AreKeyed, AreLeads, AreRoutes, BackLeaves, BacksFit, BacksLeave, HasKey, HasLimit, IsWay, LeadTo, LeadsFit, LeadsIn, LeavesBackOwner, LeavesOwner, RouteFinds, RouteFits, RouteLeaves, RoutesFit, RoutesLeave, RoutesLeaveBeside, StopFinds, StopFits, StopsFind, StopsFit, WayFits, WayLeads, entry_on, routes_at}
+use Rattle.pj_recheck.specs.Watching.{AreAside, AreFewer, AreLeft, AreLeftBeside, AreRoused, CoverageView, IsAsideAt, IsFewer, IsKey, IsLeftBy, IsUnmet, LeadsBack, Limits, PathView, PunctView, SideView, asker, come_at, is_wild_elsewhere, side_at, watches_at}
 use Rattle.pj_recheck.specs.declared.marks.DueRechecks.{DueRechecks}
 use Rattle.pj_rows.specs.Finding.{has_match}
 use Rattle.pj_recheck.proofs.Paths.{found_by_key, found_by_limit, left_at, left_other, left_unmet, unmet_elsewhere, unmet_marked}
@@ -275,6 +280,33 @@ left_now spec row_states lent routes c r given old new are lt is same own count 
     (left_by_routes spec row_states c (routes_at routes c.input) new (inputs spec) (are.each c.input lt) (fewer.count ∙ count)
     (subst (λ (ss : List StateView). RoutesLeave ss (routes_at routes c.input).recheck c.patterns new) own
     (subst (λ (rs : List RecheckRoute). RoutesLeave lent rs c.patterns new) (same ∙ ap (λ (q : InputRoutes). q.recheck) (there spec row_states routes c.input r are lt is)) leaves)))
+
+-- the same of what was told of the punctuation, where one of these covers what one that came covers
+pub left_beside : (spec : JoinData) (row_states lent : List StateView) (routes : List InputRoutes) (c : PunctView) (r : InputRoutes) (given : List RecheckRoute) (old new : List DueRechecks) (kept : List NumberedPunct) (puncts : List PunctAt)
+    → AreRoutes spec row_states (inputs spec) routes → c.input < inputs spec → r ≡ get_or routes c.input r → given ≡ r.recheck → lent ≡ row_states → length old ≡ inputs spec → AreFewer old new → RoutesLeaveBeside lent given kept c.patterns new
+    → ((instance : List (Option Value)) → covered_by_any kept instance ≡ true → covered puncts (record { input = c.input; instance = instance }) ≡ true) → AreLeftBeside spec row_states puncts c new (length old)
+left_beside spec row_states lent routes c r given old new kept puncts are lt is same own count fewer (added, beside, leaves) more = go added beside leaves
+  where
+    by-older : (asks : Demand) → eqb c.input asks.input ≡ true → covered_by_any kept asks.instance ≡ true → covered puncts asks ≡ false → ⊥
+    by-older asks here t none = false≢true (sym none ∙ (ap (λ i. covered puncts (record { input = i; instance = asks.instance })) (sym (eqb-true c.input asks.input here)) ∙ more asks.instance t))
+
+    not-so : (b : Bool) → (b ≡ true → ⊥) → (b || false) ≡ false
+    not-so true f = absurd (f refl)
+    not-so false f = refl
+
+    -- the part of what another punctuation covers
+    part : (rest : List Pattern) (ticket : ℕ) (asks : Demand) → covered (come_at (record { input = c.input; patterns = rest }) ticket ∷ []) asks ≡ false → covered puncts asks ≡ false → eqb c.input asks.input ≡ true
+        → (covered_by_any kept asks.instance ≡ true) ⊎ (covers rest asks.instance ≡ true) → ⊥
+    part rest ticket asks left none here (inl h) = by-older asks here h none
+    part rest ticket asks left none here (inr h) = false≢true (sym left ∙ ap (λ b. b || false) (and_from (eqb c.input asks.input) (covers rest asks.instance) here h))
+
+    go : (added : Added) → IsAdded kept c.patterns added → AddedLeaves lent given c.patterns new added → AreLeftBeside spec row_states puncts c new (length old)
+    go Nothing beside leaves input less ticket s at passed rows asks stored asked none = not-so (eqb c.input asks.input && covers c.patterns asks.instance) (λ t.
+        let both = and_parts (eqb c.input asks.input) (covers c.patterns asks.instance) t in by-older asks both.0 (beside asks.instance both.1) none)
+    go (Part rest) beside leaves input less ticket s at passed rows asks stored asked none = not-so (eqb c.input asks.input && covers c.patterns asks.instance) (λ t.
+        let both = and_parts (eqb c.input asks.input) (covers c.patterns asks.instance) t in
+        part rest ticket asks (left_now spec row_states lent routes (record { input = c.input; patterns = rest }) r given old new are lt is same own count fewer leaves input less ticket s at passed rows asks stored asked) none both.0 (beside asks.instance both.1))
+    go Whole beside leaves input less ticket s at passed rows asks stored asked none = left_now spec row_states lent routes c r given old new are lt is same own count fewer leaves input less ticket s at passed rows asks stored asked
 
 pub roused_now : (spec : JoinData) (row_states lent : List StateView) (routes : List InputRoutes) (input : ℕ) (gone passed : List ℕ) (r : InputRoutes) (given : List BackRoute) (old new : List DueRechecks) → AreRoutes spec row_states (inputs spec) routes → input < inputs spec → r ≡ get_or routes input r → given ≡ r.back → lent ≡ row_states → passed ≡ gone
     → length old ≡ inputs spec → AreFewer old new → BacksLeave lent given passed new → AreRoused spec row_states input gone new (length old)

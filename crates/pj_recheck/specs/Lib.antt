@@ -1,3 +1,4 @@
+pub mod Added
 pub mod Judging
 pub mod Recheck
 pub mod Watching

@@ -4,6 +4,10 @@ use Rattle.pj_value.specs.declared.values.Value.{Value}
 use Rattle.pj_pattern.specs.declared.pattern.Form.TheVariants.{Constant}
 use Rattle.pj_state.specs.States.{StateView, rows_with, tickets_of}
 use Rattle.pj_cover.specs.Asking.{first_class}
+use Rattle.pj_recheck.specs.Added.{IsAdded}
+use Rattle.pj_recheck.specs.declared.added.Added.{Added}
+use Rattle.pj_recheck.specs.declared.added.Added.TheVariants.{Nothing, Part, Whole}
+use Rattle.pj_puncts.specs.declared.store.NumberedPunct.{NumberedPunct}
 use Rattle.pj_events.specs.Patterns.{Pattern}
 use Rattle.pj_events.specs.Join.{CertEntry, ClassCol, In, JoinData, cert_of, inputs}
 use Rattle.pj_recheck.specs.declared.routes.Lead.{Lead}
@@ -152,6 +156,16 @@ LeavesOwner row_states route patterns ws = route.owner < length ws → RouteLeav
 
 abbrev pub RoutesLeave : List StateView → List RecheckRoute → List Pattern → List DueRechecks → Type 0
 RoutesLeave row_states routes patterns ws = (route : RecheckRoute) → In route routes → LeavesOwner row_states route patterns ws
+
+-- the same of what was told of the punctuation
+abbrev pub AddedLeaves : List StateView → List RecheckRoute → List Pattern → List DueRechecks → Added → Type 0
+AddedLeaves row_states routes patterns ws Nothing = Unit {0}
+AddedLeaves row_states routes patterns ws (Part rest) = RoutesLeave row_states routes rest ws
+AddedLeaves row_states routes patterns ws Whole = RoutesLeave row_states routes patterns ws
+
+-- the same, but of what one of these covers
+abbrev pub RoutesLeaveBeside : List StateView → List RecheckRoute → List NumberedPunct → List Pattern → List DueRechecks → Type 0
+RoutesLeaveBeside row_states routes kept patterns ws = (added : Added) × IsAdded kept patterns added × AddedLeaves row_states routes patterns ws added
 
 -- ---- rows that go
 

@@ -69,6 +69,12 @@ AreLeftAt spec row_states c w input =
 abbrev pub AreLeft : JoinData → List StateView → PunctView → List DueRechecks → ℕ → Type 0
 AreLeft spec row_states c ws count = (input : ℕ) → input < count → AreLeftAt spec row_states c (watches_at ws input) input
 
+-- the same, but of what one of these punctuations covers
+abbrev pub AreLeftBeside : JoinData → List StateView → List PunctAt → PunctView → List DueRechecks → ℕ → Type 0
+AreLeftBeside spec row_states puncts c ws count =
+    (input : ℕ) → input < count → (ticket : ℕ) (s : Stored) → In s (state_at row_states input).rows → is_passed (watches_at ws input) s.ticket ≡ true → (rows : List TupleAt) (asks : Demand) → AreStored row_states rows
+    → IsAsked spec.shape.classes (cert_of spec input) rows (tuple_in input s ∷ []) asks → covered puncts asks ≡ false → covered (come_at c ticket ∷ []) asks ≡ false
+
 -- of no input are more rows passed over
 pub record AreFewer (old new : List DueRechecks) : Type 0 where
   pub count : length new ≡ length old

@@ -1,6 +1,7 @@
 //! Which stored rows of a join may have become ripe, since a punctuation came or a row went, and which of them are.
 #![tactic(auto)]
 
+mod added;
 mod compiling;
 mod due_rechecks;
 mod marks;
@@ -19,4 +20,4 @@ pub use partners::mark_dependents;
 pub use routes::InputRoutes;
 pub use stored::Inputs;
 pub use sweeping::Judge;
-pub use waking::mark_covered;
+pub use waking::mark_added;

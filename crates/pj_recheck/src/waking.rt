@@ -2,14 +2,16 @@
 ghost use Rattle.std.specs.Prelude.{◌≡◌, ◌⊎◌, ◌<◌, ◌∷◌, [], length, slice_get, Some, IfOk, IfSome, OnOk};
 ghost use Rattle.pj_value.specs.Lists.{In};
 ghost use Rattle.pj_rows.specs.Tuples.{AreWide};
-ghost use Rattle.pj_recheck.specs.Recheck.{AreKeyed, HasLimit, LeadsIn, LeavesOwner, RouteFinds, RouteFits, RouteLeaves, RoutesFit, RoutesLeave, StopFinds, StopFits, StopsFit, StopsFind};
+ghost use Rattle.pj_recheck.specs.Recheck.{AreKeyed, HasLimit, LeadsIn, LeavesOwner, RouteFinds, RouteFits, RouteLeaves, RoutesFit, RoutesLeave, RoutesLeaveBeside, StopFinds, StopFits, StopsFit, StopsFind};
 ghost use Rattle.pj_recheck.specs.Watching.{AreFewer, IsFewer};
 
+use crate::added::{Added, added_by};
 use crate::due_rechecks::{Limit, is_wild_elsewhere, matching_tickets};
 use crate::marks::DueRechecks;
 use crate::reaching::{owners, rows_of};
 use crate::routes::{Lead, RecheckRoute, Stop};
 use pj_pattern::Punct;
+use pj_puncts::PunctStore;
 use pj_state::State;
 use pj_value::{List, NoMemory};
 use std::alloc::Global;
@@ -313,9 +315,9 @@ fn mark_owner(
     Ok(())
 }
 
-/// Marks the rows of each input that ask for what a punctuation covers that comes where these routes begin. On a refusal some
-/// may be marked.
-pub fn mark_covered(
+// Marks the rows of each input that ask for what a punctuation covers that comes where these routes begin. On a refusal some
+// may be marked.
+fn mark_covered(
     alloc: Global,
     due: &mut Vec<DueRechecks>,
     routes: &[RecheckRoute],
@@ -331,4 +333,33 @@ pub fn mark_covered(
         mark_owner(alloc, due, route, row_states, punct)?;
     }
     Ok(())
+}
+
+/// Marks the rows of each input that ask for what a punctuation covers that comes where these routes begin, and that none of
+/// those covers which came there: of a watermark, for what lies between it and the last. So where another stream lags, rows that
+/// wait for it are not judged at each watermark. On a refusal some may be marked.
+pub fn mark_added(
+    alloc: Global,
+    due: &mut Vec<DueRechecks>,
+    routes: &[RecheckRoute],
+    row_states: &[State],
+    came: &PunctStore,
+    punct: &Punct,
+) -> Result<(), NoMemory>
+    requires wide { AreWide row_states.now }
+    requires fit { RoutesFit row_states.now routes.now }
+    ensures fewer { AreFewer due.old.items due.new.items }
+    ensures left { OnOk result (RoutesLeaveBeside row_states.now routes.now came.now.kept punct.now due.new.items) }
+{
+    match added_by(alloc, came, punct)? {
+        Added::Nothing => Ok(()),
+        Added::Part(rest) => {
+            mark_covered(alloc, due, routes, row_states, &rest)?;
+            Ok(())
+        }
+        Added::Whole => {
+            mark_covered(alloc, due, routes, row_states, punct)?;
+            Ok(())
+        }
+    }
 }
