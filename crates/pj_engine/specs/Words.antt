@@ -3,7 +3,9 @@ use Rattle.std.specs.Prelude.{ℕ, ◌≡◌, List, map, Option, Some, None}
 use Rattle.std.specs.String.{string_bytes}
 use Rattle.std.specs.declared.string.String.{String}
 use Rattle.std.specs.declared.alloc.Global.{Global}
-use Rattle.pj_io.specs.States.{FolderState}
+use Rattle.pj_io.specs.States.{FolderState, SinkState}
+use Rattle.pj_report.specs.declared.status.Status.{Status}
+use Rattle.pj_alone.specs.Endings.{Ending, ending_of}
 use Rattle.pj_words.specs.declared.request.Request.{Request}
 use Rattle.pj_words.specs.Request.{request_in}
 use Rattle.pj_prepare.specs.Calls.{Call, call_by, wanted}
@@ -27,3 +29,7 @@ workers_by (Some request) = workers_of request
 
 abbrev pub workers_in : List (String Global) → ℕ
 workers_in words = workers_by (asked_in words)
+
+-- how a call with these words ended
+abbrev pub ended : List (String Global) → FolderState → Status → FolderState → SinkState → SinkState → Ending
+ended words before status after old new = ending_of (call_of words before) status after old new

@@ -1,9 +1,8 @@
 // A law of the top call.
 ghost use Rattle.pj_io.specs.Steady.{steady_folder_of, steady_sink};
-ghost use Rattle.pj_alone.specs.Endings.{ending_of};
 ghost use Rattle.pj_engine.specs.Completing.{CompletesSteadily};
 ghost use Rattle.pj_engine.specs.Threads.{KeepsOn};
-ghost use Rattle.pj_engine.specs.Words.{call_of, workers_in};
+ghost use Rattle.pj_engine.specs.Words.{call_of, ended, workers_in};
 
 use crate::top::run_words;
 use pj_io::{SteadyFolder, SteadySink};
@@ -23,7 +22,7 @@ pub fn steady_calls_complete<R: AllocGlobal + Threads + Wait + Sync, G: Gate>(
     gate: &G,
 ) -> Status
     ensures completes { CompletesSteadily result (call_of words.now (steady_folder_of folder.old)) }
-    ensures keeps { KeepsOn (workers_in words.now) (ending_of (call_of words.now (steady_folder_of folder.old)) result (steady_folder_of folder.new) (steady_sink out.old) (steady_sink out.new)) }
+    ensures keeps { KeepsOn (workers_in words.now) (ended words.now (steady_folder_of folder.old) result (steady_folder_of folder.new) (steady_sink out.old) (steady_sink out.new)) }
 {
     run_words(rt, words, folder, out, gate)
 }

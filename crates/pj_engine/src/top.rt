@@ -7,7 +7,7 @@ ghost use Rattle.pj_alone.specs.Promises.{Answers, AnswersRefusals, AnswersScrip
 ghost use Rattle.pj_together.specs.Promises.{AnswersBy, EndsSo, HasOneHistory, IsDoneRightly, IsLimitRight, PunctuatesBy, RetractsNone, SortsOneThread, StaysLawfulBy, TalliesBy};
 ghost use Rattle.pj_together.specs.Requests.{workers_of};
 ghost use Rattle.pj_engine.specs.Threads.{AsksNothing, KeepsOn, OnThreads};
-ghost use Rattle.pj_engine.specs.Words.{asked_in, call_of, workers_in, AsksSomething};
+ghost use Rattle.pj_engine.specs.Words.{asked_in, ended, workers_in, AsksSomething};
 
 use pj_alone::run_alone;
 use pj_io::{Folder, Sink};
@@ -32,40 +32,40 @@ pub fn run_words<R: AllocGlobal + Threads + Wait + Sync, F: Folder, K: Sink + Se
 where
     F::File: Send,
     // The run is done.
-    ensures answer { OnThreads (workers_in words.now) Answers AnswersBy (ending_of (call_of words.now (F.state folder.old)) result (F.state folder.new) (K.state out.old) (K.state out.new)) }
-    ensures punctuations { OnThreads (workers_in words.now) Punctuates PunctuatesBy (ending_of (call_of words.now (F.state folder.old)) result (F.state folder.new) (K.state out.old) (K.state out.new)) }
-    ensures lawful { OnThreads (workers_in words.now) StaysLawful StaysLawfulBy (ending_of (call_of words.now (F.state folder.old)) result (F.state folder.new) (K.state out.old) (K.state out.new)) }
-    ensures one_history { OnThreads (workers_in words.now) AsksNothing HasOneHistory (ending_of (call_of words.now (F.state folder.old)) result (F.state folder.new) (K.state out.old) (K.state out.new)) }
-    ensures one_thread_bytes { OnThreads (workers_in words.now) WritesOneThread SortsOneThread (ending_of (call_of words.now (F.state folder.old)) result (F.state folder.new) (K.state out.old) (K.state out.new)) }
-    ensures tallies { OnThreads (workers_in words.now) Tallies TalliesBy (ending_of (call_of words.now (F.state folder.old)) result (F.state folder.new) (K.state out.old) (K.state out.new)) }
-    ensures made { Makes (ending_of (call_of words.now (F.state folder.old)) result (F.state folder.new) (K.state out.old) (K.state out.new)) }
-    ensures read_to_end { ReadsToEnd (ending_of (call_of words.now (F.state folder.old)) result (F.state folder.new) (K.state out.old) (K.state out.new)) }
+    ensures answer { OnThreads (workers_in words.now) Answers AnswersBy (ended words.now (F.state folder.old) result (F.state folder.new) (K.state out.old) (K.state out.new)) }
+    ensures punctuations { OnThreads (workers_in words.now) Punctuates PunctuatesBy (ended words.now (F.state folder.old) result (F.state folder.new) (K.state out.old) (K.state out.new)) }
+    ensures lawful { OnThreads (workers_in words.now) StaysLawful StaysLawfulBy (ended words.now (F.state folder.old) result (F.state folder.new) (K.state out.old) (K.state out.new)) }
+    ensures one_history { OnThreads (workers_in words.now) AsksNothing HasOneHistory (ended words.now (F.state folder.old) result (F.state folder.new) (K.state out.old) (K.state out.new)) }
+    ensures one_thread_bytes { OnThreads (workers_in words.now) WritesOneThread SortsOneThread (ended words.now (F.state folder.old) result (F.state folder.new) (K.state out.old) (K.state out.new)) }
+    ensures tallies { OnThreads (workers_in words.now) Tallies TalliesBy (ended words.now (F.state folder.old) result (F.state folder.new) (K.state out.old) (K.state out.new)) }
+    ensures made { Makes (ended words.now (F.state folder.old) result (F.state folder.new) (K.state out.old) (K.state out.new)) }
+    ensures read_to_end { ReadsToEnd (ended words.now (F.state folder.old) result (F.state folder.new) (K.state out.old) (K.state out.new)) }
 
     // How far the call came, and what it left.
-    ensures ending { OnThreads (workers_in words.now) Ends EndsSo (ending_of (call_of words.now (F.state folder.old)) result (F.state folder.new) (K.state out.old) (K.state out.new)) }
-    ensures never_retracted { OnThreads (workers_in words.now) RetractsNothing RetractsNone (ending_of (call_of words.now (F.state folder.old)) result (F.state folder.new) (K.state out.old) (K.state out.new)) }
-    ensures whole_lines { LeavesLines (ending_of (call_of words.now (F.state folder.old)) result (F.state folder.new) (K.state out.old) (K.state out.new)) }
-    ensures handed_on { HandsOn (ending_of (call_of words.now (F.state folder.old)) result (F.state folder.new) (K.state out.old) (K.state out.new)) }
+    ensures ending { OnThreads (workers_in words.now) Ends EndsSo (ended words.now (F.state folder.old) result (F.state folder.new) (K.state out.old) (K.state out.new)) }
+    ensures never_retracted { OnThreads (workers_in words.now) RetractsNothing RetractsNone (ended words.now (F.state folder.old) result (F.state folder.new) (K.state out.old) (K.state out.new)) }
+    ensures whole_lines { LeavesLines (ended words.now (F.state folder.old) result (F.state folder.new) (K.state out.old) (K.state out.new)) }
+    ensures handed_on { HandsOn (ended words.now (F.state folder.old) result (F.state folder.new) (K.state out.old) (K.state out.new)) }
 
     // When each status comes.
-    ensures cause_of_done { OnThreads (workers_in words.now) IsRightlyDone IsDoneRightly (ending_of (call_of words.now (F.state folder.old)) result (F.state folder.new) (K.state out.old) (K.state out.new)) }
-    ensures cause_of_usage { IsRightUsage (ending_of (call_of words.now (F.state folder.old)) result (F.state folder.new) (K.state out.old) (K.state out.new)) }
+    ensures cause_of_done { OnThreads (workers_in words.now) IsRightlyDone IsDoneRightly (ended words.now (F.state folder.old) result (F.state folder.new) (K.state out.old) (K.state out.new)) }
+    ensures cause_of_usage { IsRightUsage (ended words.now (F.state folder.old) result (F.state folder.new) (K.state out.old) (K.state out.new)) }
     ensures usage { asked_in words.now ≡ None → result ≡ Status.Usage }
     ensures cause_of_no_memory { result ≡ Status.NoMemory → AsksSomething words.now }
-    ensures cause_of_plan_limit { IsRightPlanLimit (ending_of (call_of words.now (F.state folder.old)) result (F.state folder.new) (K.state out.old) (K.state out.new)) }
-    ensures cause_of_plan_refused { IsRightFault (ending_of (call_of words.now (F.state folder.old)) result (F.state folder.new) (K.state out.old) (K.state out.new)) }
-    ensures cause_of_file_count { IsRightCount (ending_of (call_of words.now (F.state folder.old)) result (F.state folder.new) (K.state out.old) (K.state out.new)) }
-    ensures cause_of_unsafe { IsRightlyUnsafe (ending_of (call_of words.now (F.state folder.old)) result (F.state folder.new) (K.state out.old) (K.state out.new)) }
-    ensures refused { AnswersRefusals (ending_of (call_of words.now (F.state folder.old)) result (F.state folder.new) (K.state out.old) (K.state out.new)) }
-    ensures cause_of_script_limit { IsRightScriptLimit (ending_of (call_of words.now (F.state folder.old)) result (F.state folder.new) (K.state out.old) (K.state out.new)) }
-    ensures cause_of_script_refused { IsRightRefusal (ending_of (call_of words.now (F.state folder.old)) result (F.state folder.new) (K.state out.old) (K.state out.new)) }
-    ensures script_refused { AnswersScripts (ending_of (call_of words.now (F.state folder.old)) result (F.state folder.new) (K.state out.old) (K.state out.new)) }
-    ensures cause_of_open_fault { IsRightOpenFault (ending_of (call_of words.now (F.state folder.old)) result (F.state folder.new) (K.state out.old) (K.state out.new)) }
-    ensures cause_of_read_fault { IsRightReadFault (ending_of (call_of words.now (F.state folder.old)) result (F.state folder.new) (K.state out.old) (K.state out.new)) }
-    ensures cause_of_write_fault { IsRightWriteFault (ending_of (call_of words.now (F.state folder.old)) result (F.state folder.new) (K.state out.old) (K.state out.new)) }
-    ensures cause_of_limit { OnThreads (workers_in words.now) IsRightLimit IsLimitRight (ending_of (call_of words.now (F.state folder.old)) result (F.state folder.new) (K.state out.old) (K.state out.new)) }
-    ensures cause_of_file_limit { IsRightFileLimit (ending_of (call_of words.now (F.state folder.old)) result (F.state folder.new) (K.state out.old) (K.state out.new)) }
-    ensures completes { IsCompleted (ending_of (call_of words.now (F.state folder.old)) result (F.state folder.new) (K.state out.old) (K.state out.new)) }
+    ensures cause_of_plan_limit { IsRightPlanLimit (ended words.now (F.state folder.old) result (F.state folder.new) (K.state out.old) (K.state out.new)) }
+    ensures cause_of_plan_refused { IsRightFault (ended words.now (F.state folder.old) result (F.state folder.new) (K.state out.old) (K.state out.new)) }
+    ensures cause_of_file_count { IsRightCount (ended words.now (F.state folder.old) result (F.state folder.new) (K.state out.old) (K.state out.new)) }
+    ensures cause_of_unsafe { IsRightlyUnsafe (ended words.now (F.state folder.old) result (F.state folder.new) (K.state out.old) (K.state out.new)) }
+    ensures refused { AnswersRefusals (ended words.now (F.state folder.old) result (F.state folder.new) (K.state out.old) (K.state out.new)) }
+    ensures cause_of_script_limit { IsRightScriptLimit (ended words.now (F.state folder.old) result (F.state folder.new) (K.state out.old) (K.state out.new)) }
+    ensures cause_of_script_refused { IsRightRefusal (ended words.now (F.state folder.old) result (F.state folder.new) (K.state out.old) (K.state out.new)) }
+    ensures script_refused { AnswersScripts (ended words.now (F.state folder.old) result (F.state folder.new) (K.state out.old) (K.state out.new)) }
+    ensures cause_of_open_fault { IsRightOpenFault (ended words.now (F.state folder.old) result (F.state folder.new) (K.state out.old) (K.state out.new)) }
+    ensures cause_of_read_fault { IsRightReadFault (ended words.now (F.state folder.old) result (F.state folder.new) (K.state out.old) (K.state out.new)) }
+    ensures cause_of_write_fault { IsRightWriteFault (ended words.now (F.state folder.old) result (F.state folder.new) (K.state out.old) (K.state out.new)) }
+    ensures cause_of_limit { OnThreads (workers_in words.now) IsRightLimit IsLimitRight (ended words.now (F.state folder.old) result (F.state folder.new) (K.state out.old) (K.state out.new)) }
+    ensures cause_of_file_limit { IsRightFileLimit (ended words.now (F.state folder.old) result (F.state folder.new) (K.state out.old) (K.state out.new)) }
+    ensures completes { IsCompleted (ended words.now (F.state folder.old) result (F.state folder.new) (K.state out.old) (K.state out.new)) }
 {
     answer(rt, words, folder, out, gate)
 }
@@ -80,7 +80,7 @@ fn answer<R: AllocGlobal + Threads + Wait + Sync, F: Folder, K: Sink + Send, G: 
 ) -> Status
 where
     F::File: Send,
-    ensures keeps { KeepsOn (workers_in words.now) (ending_of (call_of words.now (F.state folder.old)) result (F.state folder.new) (K.state out.old) (K.state out.new)) }
+    ensures keeps { KeepsOn (workers_in words.now) (ended words.now (F.state folder.old) result (F.state folder.new) (K.state out.old) (K.state out.new)) }
     ensures usage { asked_in words.now ≡ None → result ≡ Status.Usage }
     ensures cause_of_no_memory { result ≡ Status.NoMemory → AsksSomething words.now }
 {

@@ -1,8 +1,8 @@
 -- What a run with workers over files leaves: which lines of a history it wrote.
-use Rattle.std.specs.Prelude.{◌≡◌, ◌^◌, ◌⊎◌, ℕ, List, [], ◌++◌, IsTrue, slice_index_or}
+use Rattle.std.specs.Prelude.{◌≡◌, ◌^◌, ◌⊎◌, ℕ, List, [], ◌++◌, IfErr, IsTrue, Result, slice_index_or}
 use Rattle.pj_events.specs.declared.events.Entry.{Entry}
 use Rattle.pj_io.specs.States.{FolderState, SinkState}
-use Rattle.pj_feed.specs.Named.{IsAlone, files_named}
+use Rattle.pj_feed.specs.Named.{AreTold, IsAlone, files_named}
 use Rattle.pj_feed.specs.declared.stops.OpeningStop.TheVariants.{Fault, NoMemory as OpeningMemory}
 use Rattle.pj_report.specs.Forms.{shown}
 use Rattle.pj_report.specs.Written.{FrontOf, WholeLines, flat}
@@ -82,3 +82,7 @@ FilesLeave (Run (CutRead stream)) job names before after written lines =
 FilesLeave (Run (CutLarge stream)) job names before after written lines =
     LeavesFront job (files_named names before) (ArrivedOf job (files_named names before) stream (2 ^ 40)) (PartOf written lines)
 FilesLeave (Run (CutRefused line)) job names before after written lines = ⊥
+
+-- where the files and the sink are told, a run that stopped leaves what its stop does
+abbrev pub LeavesByStop : {T : Type 0} → Result T FilesStop → Job → List (List ℕ) → FolderState → FolderState → SinkState → SinkState → Type 0
+LeavesByStop result job names before after old new = AreTold names before → IsTrue new.told → IfErr result (λ stop. FilesLeave stop job names before after old.written new.written)

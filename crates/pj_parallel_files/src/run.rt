@@ -11,7 +11,7 @@ ghost use Rattle.pj_run.specs.Runs.{IsNewCore, job_in};
 ghost use Rattle.pj_run.specs.Whole.{WritesWhole};
 ghost use Rattle.pj_parallel_files.specs.Causes.{WorkersCause};
 ghost use Rattle.pj_parallel_files.specs.Feeds.{FeedsFail, FeedsLeave};
-ghost use Rattle.pj_parallel_files.specs.Histories.{FilesLeave, MadeWhole};
+ghost use Rattle.pj_parallel_files.specs.Histories.{LeavesByStop, MadeWhole};
 
 use pj_core::Core;
 use pj_feed::{Feed, OpeningStop, close_feeds, open_feeds};
@@ -53,7 +53,7 @@ where
     requires workers { (1 ≤ workers) × (workers ≤ 16) }
     ensures told { IsTrue (K.state out.new).told → IsTrue (K.state out.old).told }
     ensures done { AreTold names.now (F.state folder.old) → OnOk result (MadeWhole (job_in writing core) (files_named names.now (F.state folder.old)) (K.state out.old) (K.state out.new)) }
-    ensures stops { AreTold names.now (F.state folder.old) → IsTrue (K.state out.new).told → IfErr result (λ stop. FilesLeave stop (job_in writing core) names.now (F.state folder.old) (F.state folder.new) (K.state out.old).written (K.state out.new).written) }
+    ensures stops { LeavesByStop result (job_in writing core) names.now (F.state folder.old) (F.state folder.new) (K.state out.old) (K.state out.new) }
     ensures whole { WritesWhole files_cut (K.state out.old) (K.state out.new) result }
     ensures unopened { (stop : OpeningStop) → result ≡ Err (FilesStop.Opening stop) → out.new ≡ out.old }
     ensures last { OnOk result (AreReadToEnd names.now (F.state folder.old) (F.state folder.new)) }
