@@ -5,13 +5,10 @@ use Rattle.std.specs.List.{slice_get}
 use Rattle.std.proofs.lemmas.List.{drop_all, take_more}
 use Rattle.std.proofs.lemmas.Option.{none-some, same_Some, slice_get-get_or, slice_get-map, slice_get_within, get_or_from_slice_get}
 use Rattle.pj_value.specs.declared.values.Value.{Value}
-use Rattle.pj_value.specs.Values.{value_eq}
-use Rattle.pj_value.proofs.Members.{In-append_cases, In-append_left, In-append_right, In-filter_from, In-map_from, in_at}
-use Rattle.pj_value.proofs.Orders.{equal_itself}
-use Rattle.pj_value.specs.Options.{is_value}
+use Rattle.pj_value.proofs.Members.{In-append_cases, In-append_left, In-append_right, in_at}
 use Rattle.pj_state.specs.declared.shared.Stored.{Stored}
 use Rattle.pj_state.specs.Rising.{IsRising}
-use Rattle.pj_state.specs.States.{StateView, has_value, row_under, rows_with, tickets_of, ticket_of}
+use Rattle.pj_state.specs.States.{StateView, row_under, rows_with, tickets_of, ticket_of}
 use Rattle.pj_shape.specs.declared.joins.CertStep.{CertStep}
 use Rattle.pj_cover.specs.Asking.{IsAsked, entries}
 use Rattle.pj_events.specs.Join.{CertEntry, ClassCol, Demand, In, TupleAt, agree, entry_of, no_value, value_at}
@@ -22,9 +19,9 @@ use Rattle.pj_recheck.specs.declared.routes.Way.{Way}
 use Rattle.pj_recheck.specs.Recheck.{HopsLead, IsHop, WayLeads}
 use Rattle.pj_rows.specs.Tuples.{IsWide, state_at, tuple_in}
 use Rattle.pj_recheck.specs.Watching.{AsksAlong, HavePartners, HopsBack, LeadsBack, PathView, asker, input_at}
+use Rattle.pj_recheck.proofs.Appended.{with_value}
 use Rattle.pj_recheck.proofs.Picked.{drop_one}
 use Rattle.pj_rows.proofs.Under.{under-own}
-use Rattle.pj_rows.proofs.Indexed.{all-in}
 
 -- ---- partners
 
@@ -42,29 +39,26 @@ partners_then rows others pair tickets found more i ticket lt is before one s t 
     go (inr a) = In-append_right s.ticket found more (one s t hs ht a e)
 
 -- those of the row with one ticket
-partners_one : (state : StateView) (others : List Stored) (pair : Pair) (ticket : ℕ) (row : List Value) (value : Value) (found : List ℕ) → IsWide state → In pair.mine state.columns → IsRising ticket_of others
-    → Some row ≡ row_under ticket others → slice_get row pair.theirs ≡ Some value → found ≡ tickets_of (rows_with pair.mine value state.rows) → HavePartners state.rows others pair (ticket ∷ []) found
-partners_one state others pair ticket row value found wide indexed rising at there are s t hs ht (inl k) e =
+partners_one : (state : StateView) (others : List Stored) (pair : Pair) (ticket : ℕ) (row : List Value) (value : Value) → IsWide state → In pair.mine state.columns → IsRising ticket_of others
+    → Some row ≡ row_under ticket others → slice_get row pair.theirs ≡ Some value → HavePartners state.rows others pair (ticket ∷ []) (tickets_of (rows_with pair.mine value state.rows))
+partners_one state others pair ticket row value wide indexed rising at there s t hs ht (inl k) e =
     let own : Some t.row ≡ Some row = under-own others t rising ht ∙ ap (λ n. row_under n others) (sym k) ∙ sym at in
-    let has : has_value pair.mine value s ≡ true =
-    ap (is_value value) (slice_get-get_or s.row pair.mine no_value (all-in (λ c. c < length s.row) state.columns (wide s hs) pair.mine indexed))
-    ∙ ap (λ (v : Value). value_eq v value) (e ∙ ap (λ (r : List Value). value_at r pair.theirs) (same_Some t.row row own) ∙ get_or_from_slice_get row pair.theirs value no_value there)
-    ∙ equal_itself value in
-    subst (λ (ns : List ℕ). In s.ticket ns) (sym are) (In-map_from ticket_of s (rows_with pair.mine value state.rows) (In-filter_from (has_value pair.mine value) s state.rows hs has))
-partners_one state others pair ticket row value found wide indexed rising at there are s t hs ht (inr k) e = absurd k
+    with_value state pair.mine value s wide indexed hs
+    (e ∙ ap (λ (r : List Value). value_at r pair.theirs) (same_Some t.row row own) ∙ get_or_from_slice_get row pair.theirs value no_value there)
+partners_one state others pair ticket row value wide indexed rising at there s t hs ht (inr k) e = absurd k
 
 partners_none : (rows others : List Stored) (pair : Pair) (ticket : ℕ) → IsRising ticket_of others → None ≡ row_under ticket others → HavePartners rows others pair (ticket ∷ []) []
 partners_none rows others pair ticket rising at s t hs ht (inl k) e =
     absurd (none-some t.row (at ∙ ap (λ n. row_under n others) k ∙ sym (under-own others t rising ht)))
 partners_none rows others pair ticket rising at s t hs ht (inr k) e = absurd k
 
-pub partners_more : (state : StateView) (others : List Stored) (pair : Pair) (tickets old found new : List ℕ) (i ticket : ℕ) (row : List Value) (value : Value)
+pub partners_more : (state : StateView) (others : List Stored) (pair : Pair) (tickets old new : List ℕ) (i ticket : ℕ) (row : List Value) (value : Value)
     → IsWide state → In pair.mine state.columns → IsRising ticket_of others → i < length tickets → ticket ≡ get_or tickets i 0
-    → Some row ≡ row_under ticket others → slice_get row pair.theirs ≡ Some value → found ≡ tickets_of (rows_with pair.mine value state.rows) → new ≡ old ++ found
+    → Some row ≡ row_under ticket others → slice_get row pair.theirs ≡ Some value → ((n : ℕ) → In n (old ++ tickets_of (rows_with pair.mine value state.rows)) → In n new)
     → HavePartners state.rows others pair (take i tickets) old → HavePartners state.rows others pair (take (i + 1) tickets) new
-partners_more state others pair tickets old found new i ticket row value wide indexed rising lt is at there are more before =
-    subst (λ (ns : List ℕ). HavePartners state.rows others pair (take (i + 1) tickets) ns) (sym more)
-    (partners_then state.rows others pair tickets old found i ticket lt is before (partners_one state others pair ticket row value found wide indexed rising at there are))
+partners_more state others pair tickets old new i ticket row value wide indexed rising lt is at there all before =
+    partners_all state.rows others pair (take (i + 1) tickets) (old ++ tickets_of (rows_with pair.mine value state.rows)) new all
+    (partners_then state.rows others pair tickets old (tickets_of (rows_with pair.mine value state.rows)) i ticket lt is before (partners_one state others pair ticket row value wide indexed rising at there))
 
 pub partners_past : (rows others : List Stored) (pair : Pair) (tickets found : List ℕ) (i ticket : ℕ) → IsRising ticket_of others → i < length tickets → ticket ≡ get_or tickets i 0
     → None ≡ row_under ticket others → HavePartners rows others pair (take i tickets) found → HavePartners rows others pair (take (i + 1) tickets) found

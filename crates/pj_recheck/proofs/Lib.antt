@@ -1,4 +1,5 @@
 pub mod Adding
+pub mod Appended
 pub mod Backward
 pub mod Compiled
 pub mod Elsewhere

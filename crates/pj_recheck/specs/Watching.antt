@@ -2,7 +2,9 @@
 pub use Rattle.pj_cover.specs.Asking.{AsksStill}
 pub use Rattle.pj_recheck.specs.declared.marks.DueRechecks.{DueRechecks}
 pub use Rattle.pj_recheck.specs.declared.marks.SweepResult.{SweepResult}
+use Rattle.std.specs.BTreeSet.{BTreeSet, contains}
 use Rattle.std.specs.Option.{option_map}
+use Rattle.std.specs.Ordering.{nat_cmp}
 use Rattle.std.specs.Prelude.{ℕ, zero, suc, ◌<◌, ◌≤◌, ◌≡◌, ◌==◌, if◌then◌else◌, Bool, true, false, not, nat_lt, ◌&&◌, ◌||◌, List, [], ◌∷◌, ◌++◌, Option, Some, None, filter, flat_map, length, slice_get, slice_index_or}
 use Rattle.pj_value.specs.declared.values.Value.{Value}
 use Rattle.pj_value.specs.Options.{is_value}
@@ -134,6 +136,11 @@ AreMarked tickets w = (t : ℕ) → In t tickets → is_passed w t ≡ false
 abbrev pub HavePartners : List Stored → List Stored → Pair → List ℕ → List ℕ → Type 0
 HavePartners rows others pair tickets found =
     (s t : Stored) → In s rows → In t others → In t.ticket tickets → value_at s.row pair.mine ≡ value_at t.row pair.theirs → In s.ticket found
+
+-- each row whose ticket was seen, and each that has one value with it in this column, has its ticket among those found
+abbrev pub AreWhole : List Stored → ℕ → BTreeSet ℕ → List ℕ → Type 0
+AreWhole rows column seen found =
+    (s t : Stored) → In s rows → In t rows → contains nat_cmp seen s.ticket ≡ true → value_at t.row column ≡ value_at s.row column → In t.ticket found
 
 -- the rows of an input, and the certificate by which they ask
 pub record PathView : Type 0 where

@@ -1,18 +1,46 @@
 // Rows that ask through those of other inputs, from one input of a certificate back to those before it.
-ghost use Rattle.std.specs.Prelude.{◌≡◌, IfOk, IfSome};
+ghost use Rattle.std.specs.Prelude.{ℕ, ◌≡◌, ◌++◌, IfOk, IfSome, OnOk};
 ghost use Rattle.pj_value.specs.Lists.{In};
+ghost use Rattle.pj_state.specs.States.{rows_with, tickets_of};
 ghost use Rattle.pj_rows.specs.Tuples.{AreWide, IsWide, state_at};
 ghost use Rattle.pj_recheck.specs.Recheck.{HopFits, HopsFit, HopsLead, WayFits, WayLeads};
-ghost use Rattle.pj_recheck.specs.Watching.{HavePartners};
+ghost use Rattle.pj_recheck.specs.Watching.{AreWhole, HavePartners};
 
 use crate::routes::{Hop, Pair, Way};
 use pj_rows::in_order;
 use pj_state::{Spot, State};
-use pj_value::{List, NoMemory};
+use pj_value::{List, NoMemory, Value};
 use std::alloc::Global;
+use std::collections::BTreeSet;
 
-// The tickets of the rows that have one value in the pair's columns with one of those with these tickets; `None` where one of
-// these has no such column.
+// Puts the tickets of the rows with this value at the end of `found`, where the first of them was not seen. It is from then on.
+fn append_once(
+    state: &State,
+    column: u32,
+    value: &Value,
+    seen: &mut BTreeSet<u64>,
+    found: &mut List<u64>,
+) -> Result<(), NoMemory>
+    requires indexed { In column state.now.columns }
+    requires wide { IsWide state.now }
+    requires whole { AreWhole state.now.rows column seen.old found.old }
+    ensures whole { OnOk result (AreWhole state.now.rows column seen.new found.new) }
+    ensures all { OnOk result ((ticket : ℕ) → In ticket (found.old ++ tickets_of (rows_with column value.now state.now.rows)) → In ticket found.new) }
+{
+    let tickets = state.tickets(column, value);
+    match tickets.first() {
+        None => {}
+        Some(first) => {
+            if seen.insert(*first)? {
+                found.append(tickets)?;
+            }
+        }
+    }
+    Ok(())
+}
+
+// The tickets of the rows that have one value in the pair's columns with one of those with these tickets, each once; `None`
+// where one of these has no such column.
 fn partners(
     alloc: Global,
     pair: Pair,
@@ -28,13 +56,14 @@ fn partners(
     if others.len() == 0 {
         return Ok(Some(found));
     }
+    let mut seen = BTreeSet::new(alloc);
     let mut near = Spot::new();
     for ticket in tickets {
         match others.get_near(*ticket, &mut near) {
             None => {}
             Some(row) => match row.get(pair.theirs as usize) {
                 None => return Ok(None),
-                Some(value) => found.append(state.tickets(pair.mine, value))?,
+                Some(value) => append_once(state, pair.mine, value, &mut seen, &mut found)?,
             },
         }
     }
