@@ -1,5 +1,5 @@
 -- Cells of rows, instances and punctuations, and their hashes.
-use Rattle.std.proofs.Common.{◌≡◌, ℕ, zero, suc, ◌+◌, ◌<◌, ◌≤◌, Bool, true, false, cond, ◌&&◌, List, [], ◌∷◌, Option, Some, None, length, get_or, drop, take, eqb, refl, sym, ap, ◌∙◌, arith}
+use Rattle.std.proofs.Common.{◌≡◌, ℕ, zero, suc, ◌+◌, ◌<◌, ◌≤◌, Bool, true, false, not, cond, ◌&&◌, List, [], ◌∷◌, Option, Some, None, length, get_or, drop, take, eqb, refl, sym, ap, ◌∙◌, arith}
 use Rattle.std.specs.List.{slice_get}
 use Rattle.std.proofs.lemmas.Bool.{and_parts, eq-eqb, eqb-true, false_from_ne_true, false≢true}
 use Rattle.std.proofs.lemmas.List.{get_or-map, length-map}
@@ -201,7 +201,7 @@ same-from n (true ∷ ms) (p ∷ ps) (cell ∷ cells) t u =
     let f = and_parts (is_constant p) (fits_marks ms ps) t in
     ap (λ k. hash_from k ms cells) (cell-same n p cell ps cells f.0 u) ∙ same-from (with_cell n true (constant_in p)) ms ps cells f.1 (rest-covers p cell ps cells u)
 same-from n (false ∷ ms) (p ∷ ps) (cell ∷ cells) t u =
-    let f = and_parts (is_wild p) (fits_marks ms ps) t in
+    let f = and_parts (not (is_constant p)) (fits_marks ms ps) t in
     same-from n ms ps cells f.1 (rest-covers p cell ps cells u)
 
 pub hash_same : (ms : List Bool) (ps : List Pattern) (cells : List (Option Value)) → fits_marks ms ps ≡ true → covers ps cells ≡ true → hash_of ms cells ≡ hash_of ms (constants_of ps)

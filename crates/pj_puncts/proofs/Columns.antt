@@ -8,11 +8,11 @@ use Rattle.pj_intervals.specs.Intervals.{Answers, Entry, first_place}
 use Rattle.pj_puncts.specs.declared.store.NumberedPunct.{NumberedPunct}
 use Rattle.pj_puncts.specs.declared.index.ColumnIndex.{ColumnIndex}
 use Rattle.pj_puncts.specs.Hashes.{cell_at}
-use Rattle.pj_puncts.specs.Indexed.{AreColumns, AreEntries, AreLed, ColumnsGrew, ColumnsStay, Grows, InColumns, IsColumn, IsColumnFor, IsCoveredAt, IsEntry, IsFilled, IsInColumn, IsOfColumn, filled, number_under}
+use Rattle.pj_puncts.specs.Indexed.{AreColumns, AreEntries, AreLed, ColumnsGrew, ColumnsStay, Grows, InColumns, IsColumn, IsColumnFor, IsCoveredAt, IsEntry, IsFilled, IsInColumn, IsOfColumn, filled}
 use Rattle.pj_puncts.specs.Numbers.{are_wild, first_filled}
 use Rattle.pj_puncts.proofs.Alone.{is-wild, wild-is}
 use Rattle.pj_puncts.proofs.Filing.{all-columns-more, column-more, entries-more, there}
-use Rattle.pj_puncts.proofs.Lookups.{sound-under}
+use Rattle.pj_puncts.proofs.Lookups.{number_under, sound-under}
 
 -- ---- patterns with one that is no wildcard
 

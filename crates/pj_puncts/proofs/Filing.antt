@@ -1,23 +1,23 @@
 -- One punctuation more in an index.
-use Rattle.std.proofs.Common.{◌≡◌, ◌⊎◌, ℕ, zero, suc, ◌+◌, ◌<◌, ◌≤◌, Bool, true, false, cond, List, [], ◌∷◌, ◌++◌, Option, Some, None, Result, Ok, Err, IfOk, OnErr, inl, inr, length, get_or, set, eqb, refl, ap, sym, ◌∙◌, subst, arith, length-append}
+use Rattle.std.proofs.Common.{◌≡◌, ◌⊎◌, ℕ, zero, suc, ◌+◌, ◌<◌, ◌≤◌, Bool, true, false, cond, List, [], ◌∷◌, ◌++◌, Option, Some, None, Result, Ok, Err, IfOk, OnErr, inl, inr, length, get_or, map, set, eqb, ◌&&◌, refl, ap, sym, ◌∙◌, subst, arith, length-append}
 use Rattle.std.specs.List.{slice_get}
-use Rattle.std.proofs.lemmas.Bool.{cases_lt}
-use Rattle.std.proofs.lemmas.List.{get_or_append_left, get_or_default, set-get_or}
+use Rattle.std.proofs.lemmas.Bool.{cases_lt, eq-eqb, eqb-true}
+use Rattle.std.proofs.lemmas.List.{get_or_append_left, get_or_default}
 use Rattle.std.proofs.lemmas.Option.{slice_get-get_or}
-use Rattle.indexmap.specs.IndexMap.{get}
+use Rattle.indexmap.specs.IndexMap.{IndexMap, get}
 use Rattle.pj_value.specs.Lists.{In}
 use Rattle.pj_value.specs.declared.values.Value.{Value}
 use Rattle.pj_value.proofs.Members.{In-append_cases, In-append_left, In-append_right}
 use Rattle.pj_events.specs.Patterns.{Pattern, covers, covers_punct}
 use Rattle.pj_intervals.specs.Intervals.{Entry}
 use Rattle.pj_puncts.specs.declared.store.NumberedPunct.{NumberedPunct}
-use Rattle.pj_puncts.specs.declared.index.Chain.{Chain}
 use Rattle.pj_puncts.specs.declared.index.ColumnIndex.{ColumnIndex}
-use Rattle.pj_puncts.specs.declared.index.ConstantSet.{ConstantSet}
 use Rattle.pj_puncts.specs.declared.index.Index.{Index}
+use Rattle.pj_puncts.specs.declared.index.ShapeSet.{ShapeSet}
 use Rattle.pj_puncts.specs.Stores.{AreRising, IsAbove}
 use Rattle.pj_puncts.specs.Hashes.{constants_of, hash_of}
-use Rattle.pj_puncts.specs.Indexed.{AreChained, AreColumns, AreEntries, AreLed, ArePlaces, ChainGrew, ChainTakes, ChainsGrew, ChainsTake, ColumnsGrew, ColumnsStay, FitsAt, Grows, InChains, InColumns, InSets, IsChain, IsChained, IsColumn, IsCoveredAt, IsFiled, IsHeld, IsInChains, IsInColumns, IsInSets, IsInSlot, IsLedTo, IsUnfiled, covered_in, covers_in, number_at, number_in, slot}
+use Rattle.pj_puncts.specs.Indexed.{AreChained, AreColumns, AreEntries, AreLed, ArePlaces, AreSetsChained, ChainGrew, ChainTakes, ColumnsGrew, ColumnsStay, FitsAt, Grows, InColumns, InSets, IsChain, IsChained, IsColumn, IsCoveredAt, IsFiled, IsHeld, IsInColumns, IsInSets, IsLedTo, IsUnfiled, SetStays, SetTakes, SetsGrew, SetsStay, SetsTake, covered_in, covers_in, fits_mark, fits_marks, is_constant, number_at, number_in, slot}
+use Rattle.pj_puncts.specs.Numbers.{numbers_in}
 use Rattle.pj_puncts.proofs.Cellwise.{covers_through, hash_same}
 use Rattle.pj_puncts.proofs.Firsts.{rising-push}
 
@@ -56,73 +56,6 @@ below-all n [] j all h = absurd h
 below-all n (x ∷ ks) j all (inl e) = subst (λ (y : NumberedPunct). y.number < n) e all.0
 below-all n (x ∷ ks) j all (inr h) = below-all n ks j all.1 h
 
--- ---- sets
-
--- the punctuation's own hash leads to a place where it is covered
-pub slot_leads : (kept : List NumberedPunct) (at a hash_value : ℕ) (s : ConstantSet) (q : NumberedPunct) → FitsAt kept at s.marks → at < length kept → q ≡ get_or kept at q → hash_value ≡ hash_of s.marks (constants_of q.punct)
-    → get eqb s.places hash_value ≡ Some a → covers_in (slice_get kept a) q.punct ≡ true → AreLed kept at (IsInSlot s)
-slot_leads kept at a hash_value s q fits lt is hash_is found t k cells e u =
-    let same : q ≡ k = some-same q k (sym (there kept at q lt is) ∙ e) in
-    let own : covers q.punct cells ≡ true = ap (λ (y : NumberedPunct). covers y.punct cells) same ∙ u in
-    let r = go (slice_get kept a) refl t own in (
-      a,
-      ap (get eqb s.places) (hash_same s.marks q.punct cells (fits q (there kept at q lt is)) own ∙ sym hash_is) ∙ found,
-      r,
-    )
-  where
-    go : (o : Option NumberedPunct) → slice_get kept a ≡ o → covers_in o q.punct ≡ true → covers q.punct cells ≡ true → IsCoveredAt kept a cells
-    go None f v own = absurd (cc)
-    go (Some j) f v own = record { punct = j; there = f; covers_too = covers_through j.punct q.punct cells v own }
-
--- or to its own place
-pub slot_leads_here : (kept : List NumberedPunct) (at hash_value : ℕ) (s : ConstantSet) (q : NumberedPunct) → FitsAt kept at s.marks → at < length kept → q ≡ get_or kept at q → hash_value ≡ hash_of s.marks (constants_of q.punct)
-    → get eqb s.places hash_value ≡ Some at → AreLed kept at (IsInSlot s)
-slot_leads_here kept at hash_value s q fits lt is hash_is found k cells e u =
-    let same : q ≡ k = some-same q k (sym (there kept at q lt is) ∙ e) in
-    let own : covers q.punct cells ≡ true = ap (λ (y : NumberedPunct). covers y.punct cells) same ∙ u in (
-      at,
-      ap (get eqb s.places) (hash_same s.marks q.punct cells (fits q (there kept at q lt is)) own ∙ sym hash_is) ∙ found,
-      record { punct = k; there = e; covers_too = u },
-    )
-
-in-sets-set : (xs : List ConstantSet) (i : ℕ) (s d : ConstantSet) (cells : List (Option Value)) (a : ℕ) → (slot cells (get_or xs i d) ≡ Some a → slot cells s ≡ Some a) → InSets cells a xs → InSets cells a (set xs i s)
-in-sets-set [] i s d cells a f h = h
-in-sets-set (x ∷ xs) zero s d cells a f (inl e) = inl (f e)
-in-sets-set (x ∷ xs) zero s d cells a f (inr h) = inr h
-in-sets-set (x ∷ xs) (suc i) s d cells a f (inl e) = inl e
-in-sets-set (x ∷ xs) (suc i) s d cells a f (inr h) = inr (in-sets-set xs i s d cells a f h)
-
-in-sets-here : (xs : List ConstantSet) (i : ℕ) (s : ConstantSet) (cells : List (Option Value)) (a : ℕ) → i < length xs → slot cells s ≡ Some a → InSets cells a (set xs i s)
-in-sets-here [] i s cells a lt e = absurd (omega (arith, lt))
-in-sets-here (x ∷ xs) zero s cells a lt e = inl e
-in-sets-here (x ∷ xs) (suc i) s cells a lt e = inr (in-sets-here xs i s cells a (omega (arith, lt)) e)
-
-in-sets-left : (xs ys : List ConstantSet) (cells : List (Option Value)) (a : ℕ) → InSets cells a xs → InSets cells a (xs ++ ys)
-in-sets-left [] ys cells a h = absurd h
-in-sets-left (x ∷ xs) ys cells a (inl e) = inl e
-in-sets-left (x ∷ xs) ys cells a (inr h) = inr (in-sets-left xs ys cells a h)
-
-in-sets-last : (xs : List ConstantSet) (s : ConstantSet) (cells : List (Option Value)) (a : ℕ) → slot cells s ≡ Some a → InSets cells a (xs ++ s ∷ [])
-in-sets-last [] s cells a e = inl e
-in-sets-last (x ∷ xs) s cells a e = inr (in-sets-last xs s cells a e)
-
-pub sets_grow : (xs : List ConstantSet) (i : ℕ) (old s : ConstantSet) → i < length xs → old ≡ get_or xs i old → Grows (IsInSlot old) (IsInSlot s) → Grows (IsInSets xs) (IsInSets (set xs i s))
-sets_grow xs i old s lt is g cells a h = in-sets-set xs i s old cells a (λ e. g cells a (ap (slot cells) is ∙ e)) h
-
-sets_lead : (kept : List NumberedPunct) (at : ℕ) (xs : List ConstantSet) (i : ℕ) (s : ConstantSet) → i < length xs → AreLed kept at (IsInSlot s) → AreLed kept at (IsInSets (set xs i s))
-sets_lead kept at xs i s lt l k cells e t = let r = l k cells e t in (r.0, in-sets-here xs i s cells r.0 lt r.1, r.2)
-
-pub sets_lead_on : {E : Type 0} (kept : List NumberedPunct) (at : ℕ) (xs : List ConstantSet) (i : ℕ) (s : ConstantSet) (r : Result Bool E) → i < length xs → IfOk r (λ filed. filed ≡ true → AreLed kept at (IsInSlot s))
-    → IfOk r (λ filed. filed ≡ true → AreLed kept at (IsInSets (set xs i s)))
-sets_lead_on kept at xs i s (Ok b) lt f = λ t. sets_lead kept at xs i s lt (f t)
-sets_lead_on kept at xs i s (Err e) lt f = f
-
-pub more_sets_grow : (xs : List ConstantSet) (s : ConstantSet) → Grows (IsInSets xs) (IsInSets (xs ++ s ∷ []))
-more_sets_grow xs s cells a h = in-sets-left xs (s ∷ []) cells a h
-
-pub more_sets_lead : (kept : List NumberedPunct) (at : ℕ) (xs : List ConstantSet) (s : ConstantSet) → AreLed kept at (IsInSlot s) → AreLed kept at (IsInSets (xs ++ s ∷ []))
-more_sets_lead kept at xs s l k cells e t = let r = l k cells e t in (r.0, in-sets-last xs s cells r.0 r.1, r.2)
-
 -- ---- places and chains
 
 places-more : (from count : ℕ) (places : List ℕ) → ArePlaces from count places → ArePlaces from (count + 1) places
@@ -154,24 +87,20 @@ chain-more ks k places are chain cells i n lt e =
     let r = chain cells i n lt (sym (number-more ks k cells (get_or places i 0) (place-below 0 (length ks) i places are (omega (arith, lt)))) ∙ e) in
     (r.0, number-more ks k cells (get_or places (i + 1) 0) (place-below 0 (length ks) (i + 1) places are lt) ∙ r.1)
 
-chained-more : (ks : List NumberedPunct) (k : NumberedPunct) (c : Chain) → IsChained ks c → IsChained (ks ++ k ∷ []) c
-chained-more ks k c is = record {
-  places_are = subst (λ n. ArePlaces 0 n c.places) (sym (length-more ks k)) (places-more 0 (length ks) c.places is.places_are);
-  grows = chain-more ks k c.places is.places_are is.grows;
+chained-more : (ks : List NumberedPunct) (k : NumberedPunct) (places : List ℕ) → IsChained ks places → IsChained (ks ++ k ∷ []) places
+chained-more ks k places is = record {
+  places_are = subst (λ n. ArePlaces 0 n places) (sym (length-more ks k)) (places-more 0 (length ks) places is.places_are);
+  grows = chain-more ks k places is.places_are is.grows;
 }
 
-all-chained-more : (ks : List NumberedPunct) (k : NumberedPunct) (cs : List Chain) → AreChained ks cs → AreChained (ks ++ k ∷ []) cs
-all-chained-more ks k [] are = tt
-all-chained-more ks k (c ∷ cs) are = (chained-more ks k c are.0, all-chained-more ks k cs are.1)
-
 -- the last one covers the punctuation, so nothing changes
-pub chain_stays : (kept : List NumberedPunct) (at last : ℕ) (q : NumberedPunct) (c : Chain) → at < length kept → q ≡ get_or kept at q → In last c.places → covers_in (slice_get kept last) q.punct ≡ true → ChainGrew kept at c c
-chain_stays kept at last q c lt is h t = record {
-  grow = λ cells a g. g;
+pub chain_stays : (kept : List NumberedPunct) (at last : ℕ) (q : NumberedPunct) (places : List ℕ) → at < length kept → q ≡ get_or kept at q → In last places → covers_in (slice_get kept last) q.punct ≡ true → ChainGrew kept at places places
+chain_stays kept at last q places lt is h t = record {
+  grow = λ a g. g;
   leads = λ k cells e u.
       let same : q ≡ k = some-same q k (sym (there kept at q lt is) ∙ e) in
       (last, h, go (slice_get kept last) refl t cells (ap (λ (y : NumberedPunct). covers y.punct cells) same ∙ u));
-  chained = λ ks k e are. subst (λ (xs : List NumberedPunct). IsChained xs c) (sym e) (chained-more ks k c are);
+  chained = λ ks k e are. subst (λ (xs : List NumberedPunct). IsChained xs places) (sym e) (chained-more ks k places are);
 }
   where
     go : (o : Option NumberedPunct) → slice_get kept last ≡ o → covers_in o q.punct ≡ true → (cells : List (Option Value)) → covers q.punct cells ≡ true → IsCoveredAt kept last cells
@@ -212,91 +141,187 @@ chain-push ks k places are chain last cells i n lt e = elim (cases_lt (i + 1) (l
     seam [] x = refl
     seam (y ∷ xs) x = seam xs x
 
-pub chain_pushes : (kept : List NumberedPunct) (at : ℕ) (q : NumberedPunct) (c new : Chain) → at + 1 ≡ length kept → q ≡ get_or kept at q → new.places ≡ c.places ++ at ∷ [] → IsLast kept c.places q.punct → ChainGrew kept at c new
-chain_pushes kept at q c new count is to last =
+pub chain_pushes : (kept : List NumberedPunct) (at : ℕ) (q : NumberedPunct) (places new : List ℕ) → at + 1 ≡ length kept → q ≡ get_or kept at q → new ≡ places ++ at ∷ [] → IsLast kept places q.punct → ChainGrew kept at places new
+chain_pushes kept at q places new count is to last =
     let lt : at < length kept = omega (arith, count) in
     record {
-      grow = λ cells a g. subst (In a) (sym to) (In-append_left a c.places (at ∷ []) g);
-      leads = λ k cells e u. (at, subst (In at) (sym to) (In-append_right at c.places (at ∷ []) (inl refl)), record { punct = k; there = e; covers_too = u });
+      grow = λ a g. subst (In a) (sym to) (In-append_left a places (at ∷ []) g);
+      leads = λ k cells e u. (at, subst (In at) (sym to) (In-append_right at places (at ∷ []) (inl refl)), record { punct = k; there = e; covers_too = u });
       chained = λ ks k e are.
           let size : at ≡ length ks = omega (arith, count, ap length e, length-more ks k) in
           let own : q ≡ k = some-same q k (sym (there kept at q lt is) ∙ (ap (λ (xs : List NumberedPunct). slice_get xs at) e ∙ (ap (slice_get (ks ++ k ∷ [])) size ∙ get-last ks k))) in
-          let ends : IsLast (ks ++ k ∷ []) c.places k.punct = subst (λ (xs : List NumberedPunct). IsLast xs c.places k.punct) e (subst (λ (y : NumberedPunct). IsLast kept c.places y.punct) own last) in
-          let all : new.places ≡ c.places ++ length ks ∷ [] = to ∙ ap (λ n. c.places ++ n ∷ []) size in
+          let ends : IsLast (ks ++ k ∷ []) places k.punct = subst (λ (xs : List NumberedPunct). IsLast xs places k.punct) e (subst (λ (y : NumberedPunct). IsLast kept places y.punct) own last) in
+          let all : new ≡ places ++ length ks ∷ [] = to ∙ ap (λ n. places ++ n ∷ []) size in
           subst (λ (xs : List NumberedPunct). IsChained xs new) (sym e) (record {
-            places_are = subst (ArePlaces 0 (length (ks ++ k ∷ []))) (sym all) (subst (λ n. ArePlaces 0 n (c.places ++ length ks ∷ [])) (sym (length-more ks k)) (places_push 0 (length ks) c.places (omega arith) are.places_are));
-            grows = subst (IsChain (ks ++ k ∷ [])) (sym all) (chain-push ks k c.places are.places_are are.grows ends);
+            places_are = subst (ArePlaces 0 (length (ks ++ k ∷ []))) (sym all) (subst (λ n. ArePlaces 0 n (places ++ length ks ∷ [])) (sym (length-more ks k)) (places_push 0 (length ks) places (omega arith) are.places_are));
+            grows = subst (IsChain (ks ++ k ∷ [])) (sym all) (chain-push ks k places are.places_are are.grows ends);
           });
     }
 
-in-chains-set : (cs : List Chain) (i : ℕ) (c d : Chain) (a : ℕ) → (In a (get_or cs i d).places → In a c.places) → InChains a cs → InChains a (set cs i c)
-in-chains-set [] i c d a f h = h
-in-chains-set (x ∷ cs) zero c d a f (inl e) = inl (f e)
-in-chains-set (x ∷ cs) zero c d a f (inr h) = inr h
-in-chains-set (x ∷ cs) (suc i) c d a f (inl e) = inl e
-in-chains-set (x ∷ cs) (suc i) c d a f (inr h) = inr (in-chains-set cs i c d a f h)
-
-in-chains-here : (cs : List Chain) (i : ℕ) (c : Chain) (a : ℕ) → i < length cs → In a c.places → InChains a (set cs i c)
-in-chains-here [] i c a lt h = absurd (omega (arith, lt))
-in-chains-here (x ∷ cs) zero c a lt h = inl h
-in-chains-here (x ∷ cs) (suc i) c a lt h = inr (in-chains-here cs i c a (omega (arith, lt)) h)
-
-in-chains-left : (cs ds : List Chain) (a : ℕ) → InChains a cs → InChains a (cs ++ ds)
-in-chains-left [] ds a h = absurd h
-in-chains-left (c ∷ cs) ds a (inl e) = inl e
-in-chains-left (c ∷ cs) ds a (inr h) = inr (in-chains-left cs ds a h)
-
-in-chains-last : (cs : List Chain) (c : Chain) (a : ℕ) → In a c.places → InChains a (cs ++ c ∷ [])
-in-chains-last [] c a h = inl h
-in-chains-last (x ∷ cs) c a h = inr (in-chains-last cs c a h)
-
-chained-set : (ks : List NumberedPunct) (k : NumberedPunct) (cs : List Chain) (i : ℕ) (c d : Chain) → i < length cs → (IsChained ks (get_or cs i d) → IsChained (ks ++ k ∷ []) c) → AreChained ks cs → AreChained (ks ++ k ∷ []) (set cs i c)
-chained-set ks k [] i c d lt f are = absurd (omega (arith, lt))
-chained-set ks k (x ∷ cs) zero c d lt f are = (f are.0, all-chained-more ks k cs are.1)
-chained-set ks k (x ∷ cs) (suc i) c d lt f are = (chained-more ks k x are.0, chained-set ks k cs i c d (omega (arith, lt)) f are.1)
-
-chained-last : (ks : List NumberedPunct) (cs : List Chain) (c : Chain) → AreChained ks cs → IsChained ks c → AreChained ks (cs ++ c ∷ [])
-chained-last ks [] c are is = (is, tt)
-chained-last ks (x ∷ cs) c are is = (are.0, chained-last ks cs c are.1 is)
-
--- a chain of a list took the punctuation in, or not
-chains_take : (kept : List NumberedPunct) (at : ℕ) (cs : List Chain) (i : ℕ) (old new : Chain) (b : Bool) → i < length cs → old ≡ get_or cs i old → ChainTakes kept at old new b → ChainsTake kept at cs (set cs i new) b
-chains_take kept at cs i old new false lt is t = ap (set cs i) (t ∙ is) ∙ set-get_or cs i old
-chains_take kept at cs i old new true lt is t = record {
-  grow = λ cells a h. in-chains-set cs i new old a (λ g. t.grow cells a (subst (λ (c : Chain). In a c.places) (sym is) g)) h;
-  leads = λ k cells e u. let r = t.leads k cells e u in (r.0, in-chains-here cs i new r.0 lt r.1, r.2);
-  chained = λ ks k e are.
-      subst (λ (xs : List NumberedPunct). AreChained xs (set cs i new)) (sym e)
-      (chained-set ks k cs i new old lt (λ g. subst (λ (xs : List NumberedPunct). IsChained xs new) e (t.chained ks k e (subst (IsChained ks) (sym is) g))) are);
-}
-
-pub chains_take_on : {E : Type 0} (kept : List NumberedPunct) (at : ℕ) (cs : List Chain) (i : ℕ) (old new : Chain) (r : Result Bool E) → i < length cs → old ≡ get_or cs i old → IfOk r (ChainTakes kept at old new)
-    → IfOk r (ChainsTake kept at cs (set cs i new))
-chains_take_on kept at cs i old new (Ok b) lt is t = chains_take kept at cs i old new b lt is t
-chains_take_on kept at cs i old new (Err e) lt is t = t
-
 -- a chain of the punctuation alone
-pub chains_more : (kept : List NumberedPunct) (at : ℕ) (cs : List Chain) (c : Chain) → at + 1 ≡ length kept → c.places ≡ at ∷ [] → ChainsGrew kept at cs (cs ++ c ∷ [])
-chains_more kept at cs c count to = record {
-  grow = λ cells a h. in-chains-left cs (c ∷ []) a h;
-  leads = λ k cells e u. (at, in-chains-last cs c at (subst (In at) (sym to) (inl refl)), record { punct = k; there = e; covers_too = u });
-  chained = λ ks k e are.
-      let size : at ≡ length ks = omega (arith, count, ap length e, length-more ks k) in
-      subst (λ (xs : List NumberedPunct). AreChained xs (cs ++ c ∷ [])) (sym e) (chained-last (ks ++ k ∷ []) cs c (all-chained-more ks k cs are) (alone ks k size));
+pub chain_starts : (kept : List NumberedPunct) (at : ℕ) (q : NumberedPunct) (new : List ℕ) → at + 1 ≡ length kept → q ≡ get_or kept at q → new ≡ at ∷ [] → ChainGrew kept at [] new
+chain_starts kept at q new count is to = chain_pushes kept at q [] new count is to (λ i e. absurd (omega (arith, e)))
+
+-- ---- sets
+
+-- one chain of the set is another one
+abbrev pub IsChanged : ShapeSet → ShapeSet → ℕ → List ℕ → Type 0
+IsChanged old new hash_value chain = (q : ℕ) → numbers_in (get eqb new.chains q) ≡ cond (eqb hash_value q) chain (numbers_in (get eqb old.chains q))
+
+slot-changed : (old new : ShapeSet) (hash_value : ℕ) (chain : List ℕ) (cells : List (Option Value)) → new.marks ≡ old.marks → IsChanged old new hash_value chain
+    → slot cells new ≡ cond (eqb hash_value (hash_of old.marks cells)) chain (slot cells old)
+slot-changed old new hash_value chain cells marks changed = ap (λ (ms : List Bool). numbers_in (get eqb new.chains (hash_of ms cells))) marks ∙ changed (hash_of old.marks cells)
+
+fits-own : (ps : List Pattern) → fits_marks (map is_constant ps) ps ≡ true
+fits-own [] = refl
+fits-own (p ∷ ps) = go (is_constant p) refl (fits-own ps)
+  where
+    go : (b : Bool) → is_constant p ≡ b → fits_marks (map is_constant ps) ps ≡ true → (fits_mark b p && fits_marks (map is_constant ps) ps) ≡ true
+    go true e ih = rw e ih
+    go false e ih = rw e ih
+
+-- a punctuation has the shape of its own constants
+pub fits_here : (kept : List NumberedPunct) (at : ℕ) (q : NumberedPunct) (marks : List Bool) → at < length kept → q ≡ get_or kept at q → marks ≡ map is_constant q.punct → FitsAt kept at marks
+fits_here kept at q marks lt is own k e =
+    subst (λ (ms : List Bool). fits_marks ms k.punct ≡ true) (sym (own ∙ ap (λ (y : NumberedPunct). map is_constant y.punct) (some-same q k (sym (there kept at q lt is) ∙ e)))) (fits-own k.punct)
+
+pub changed_by : {S : Type 0} (hash_value : ℕ) (old new : IndexMap ℕ (List ℕ) S) (chain : List ℕ) → ((q : ℕ) → get eqb new q ≡ cond (eqb hash_value q) (Some chain) (get eqb old q))
+    → (q : ℕ) → numbers_in (get eqb new q) ≡ cond (eqb hash_value q) chain (numbers_in (get eqb old q))
+changed_by hash_value old new chain to q = ap numbers_in (to q) ∙ go (eqb hash_value q)
+  where
+    go : (b : Bool) → numbers_in (cond b (Some chain) (get eqb old q)) ≡ cond b chain (numbers_in (get eqb old q))
+    go true = refl
+    go false = refl
+
+-- it took the punctuation in where its chain did
+pub set_took : (kept : List NumberedPunct) (at hash_value : ℕ) (old new : ShapeSet) (q : NumberedPunct) (chain : List ℕ) (b : Bool) → FitsAt kept at old.marks → at < length kept → q ≡ get_or kept at q
+    → hash_value ≡ hash_of old.marks (constants_of q.punct) → new.marks ≡ old.marks → IsChanged old new hash_value chain → ChainTakes kept at (numbers_in (get eqb old.chains hash_value)) chain b → SetTakes kept at old new b
+set_took kept at hash_value old new q chain false fits lt is hash_is marks changed same = record { marks = marks; same = λ n. changed n ∙ go n (eqb hash_value n) refl }
+  where
+    go : (n : ℕ) (b : Bool) → eqb hash_value n ≡ b → cond b chain (numbers_in (get eqb old.chains n)) ≡ numbers_in (get eqb old.chains n)
+    go n true e = same ∙ ap (λ m. numbers_in (get eqb old.chains m)) (eqb-true hash_value n e)
+    go n false e = refl
+set_took kept at hash_value old new q chain true fits lt is hash_is marks changed grew = record {
+  grow = λ cells a h. subst (In a) (sym (slot-changed old new hash_value chain cells marks changed)) (keeps a (hash_of old.marks cells) (eqb hash_value (hash_of old.marks cells)) refl h);
+  leads = λ k cells e u.
+      let same : q ≡ k = some-same q k (sym (there kept at q lt is) ∙ e) in
+      let own : covers q.punct cells ≡ true = ap (λ (y : NumberedPunct). covers y.punct cells) same ∙ u in
+      let here : eqb hash_value (hash_of old.marks cells) ≡ true = eq-eqb hash_value (hash_of old.marks cells) (hash_is ∙ sym (hash_same old.marks q.punct cells (fits q (there kept at q lt is)) own)) in
+      let r = grew.leads k cells e u in
+      (r.0, subst (In r.0) (sym (slot-changed old new hash_value chain cells marks changed ∙ ap (λ b. cond b chain (slot cells old)) here)) r.1, r.2);
+  chained = λ ks k e are n. subst (IsChained kept) (sym (changed n)) (chains ks k e are n (eqb hash_value n));
 }
   where
-    alone : (ks : List NumberedPunct) (k : NumberedPunct) → at ≡ length ks → IsChained (ks ++ k ∷ []) c
-    alone ks k size = record {
-      places_are = subst (ArePlaces 0 (length (ks ++ k ∷ []))) (sym to) (omega arith, omega (arith, size, length-more ks k), tt);
-      grows = λ cells i n lt e. absurd (omega (arith, subst (λ (ps : List ℕ). i + 1 < length ps) to lt));
-    }
+    keeps : (a n : ℕ) (b : Bool) → eqb hash_value n ≡ b → In a (numbers_in (get eqb old.chains n)) → In a (cond b chain (numbers_in (get eqb old.chains n)))
+    keeps a n true e h = grew.grow a (subst (λ m. In a (numbers_in (get eqb old.chains m))) (sym (eqb-true hash_value n e)) h)
+    keeps a n false e h = h
+
+    chains : (ks : List NumberedPunct) (k : NumberedPunct) → kept ≡ ks ++ k ∷ [] → AreChained ks old → (n : ℕ) (b : Bool) → IsChained kept (cond b chain (numbers_in (get eqb old.chains n)))
+    chains ks k e are n true = grew.chained ks k e (are hash_value)
+    chains ks k e are n false = subst (λ (xs : List NumberedPunct). IsChained xs (numbers_in (get eqb old.chains n))) (sym e) (chained-more ks k (numbers_in (get eqb old.chains n)) (are n))
+
+pub set_took_on : {E : Type 0} (kept : List NumberedPunct) (at hash_value : ℕ) (old new : ShapeSet) (q : NumberedPunct) (before chain : List ℕ) (r : Result Bool E) → FitsAt kept at old.marks → at < length kept → q ≡ get_or kept at q
+    → hash_value ≡ hash_of old.marks (constants_of q.punct) → new.marks ≡ old.marks → IsChanged old new hash_value chain → before ≡ numbers_in (get eqb old.chains hash_value) → IfOk r (ChainTakes kept at before chain) → IfOk r (SetTakes kept at old new)
+set_took_on kept at hash_value old new q before chain (Ok b) fits lt is hash_is marks changed same t =
+    set_took kept at hash_value old new q chain b fits lt is hash_is marks changed (subst (λ (ns : List ℕ). ChainTakes kept at ns chain b) same t)
+set_took_on kept at hash_value old new q before chain (Err e) fits lt is hash_is marks changed same t = t
+
+set-more : (ks : List NumberedPunct) (k : NumberedPunct) (s : ShapeSet) → AreChained ks s → AreChained (ks ++ k ∷ []) s
+set-more ks k s are n = chained-more ks k (numbers_in (get eqb s.chains n)) (are n)
+
+sets-more : (ks : List NumberedPunct) (k : NumberedPunct) (xs : List ShapeSet) → AreSetsChained ks xs → AreSetsChained (ks ++ k ∷ []) xs
+sets-more ks k [] are = tt
+sets-more ks k (x ∷ xs) are = (set-more ks k x are.0, sets-more ks k xs are.1)
+
+set-stays : (ks : List NumberedPunct) (old new : ShapeSet) → SetStays old new → AreChained ks old → AreChained ks new
+set-stays ks old new stays are n = subst (IsChained ks) (sym (stays.same n)) (are n)
+
+slot-stays : (old new : ShapeSet) (cells : List (Option Value)) → SetStays old new → slot cells new ≡ slot cells old
+slot-stays old new cells stays = ap (λ (ms : List Bool). numbers_in (get eqb new.chains (hash_of ms cells))) stays.marks ∙ stays.same (hash_of old.marks cells)
+
+in-sets-set : (xs : List ShapeSet) (i : ℕ) (s d : ShapeSet) (cells : List (Option Value)) (a : ℕ) → (In a (slot cells (get_or xs i d)) → In a (slot cells s)) → InSets cells a xs → InSets cells a (set xs i s)
+in-sets-set [] i s d cells a f h = h
+in-sets-set (x ∷ xs) zero s d cells a f (inl e) = inl (f e)
+in-sets-set (x ∷ xs) zero s d cells a f (inr h) = inr h
+in-sets-set (x ∷ xs) (suc i) s d cells a f (inl e) = inl e
+in-sets-set (x ∷ xs) (suc i) s d cells a f (inr h) = inr (in-sets-set xs i s d cells a f h)
+
+in-sets-here : (xs : List ShapeSet) (i : ℕ) (s : ShapeSet) (cells : List (Option Value)) (a : ℕ) → i < length xs → In a (slot cells s) → InSets cells a (set xs i s)
+in-sets-here [] i s cells a lt e = absurd (omega (arith, lt))
+in-sets-here (x ∷ xs) zero s cells a lt e = inl e
+in-sets-here (x ∷ xs) (suc i) s cells a lt e = inr (in-sets-here xs i s cells a (omega (arith, lt)) e)
+
+in-sets-left : (xs ys : List ShapeSet) (cells : List (Option Value)) (a : ℕ) → InSets cells a xs → InSets cells a (xs ++ ys)
+in-sets-left [] ys cells a h = absurd h
+in-sets-left (x ∷ xs) ys cells a (inl e) = inl e
+in-sets-left (x ∷ xs) ys cells a (inr h) = inr (in-sets-left xs ys cells a h)
+
+in-sets-last : (xs : List ShapeSet) (s : ShapeSet) (cells : List (Option Value)) (a : ℕ) → In a (slot cells s) → InSets cells a (xs ++ s ∷ [])
+in-sets-last [] s cells a e = inl e
+in-sets-last (x ∷ xs) s cells a e = inr (in-sets-last xs s cells a e)
+
+chained-set : (ks ls : List NumberedPunct) (xs : List ShapeSet) (i : ℕ) (s d : ShapeSet) → i < length xs → ((x : ShapeSet) → AreChained ks x → AreChained ls x) → (AreChained ks (get_or xs i d) → AreChained ls s)
+    → AreSetsChained ks xs → AreSetsChained ls (set xs i s)
+chained-set ks ls [] i s d lt g f are = absurd (omega (arith, lt))
+chained-set ks ls (x ∷ xs) zero s d lt g f are = (f are.0, others xs are.1)
+  where
+    others : (ys : List ShapeSet) → AreSetsChained ks ys → AreSetsChained ls ys
+    others [] is = tt
+    others (y ∷ ys) is = (g y is.0, others ys is.1)
+chained-set ks ls (x ∷ xs) (suc i) s d lt g f are = (g x are.0, chained-set ks ls xs i s d (omega (arith, lt)) g f are.1)
+
+chained-last : (ks : List NumberedPunct) (xs : List ShapeSet) (s : ShapeSet) → AreSetsChained ks xs → AreChained ks s → AreSetsChained ks (xs ++ s ∷ [])
+chained-last ks [] s are is = (is, tt)
+chained-last ks (x ∷ xs) s are is = (are.0, chained-last ks xs s are.1 is)
+
+set_stays_among : (xs : List ShapeSet) (i : ℕ) (old new : ShapeSet) → i < length xs → old ≡ get_or xs i old → SetStays old new → SetsStay xs (set xs i new)
+set_stays_among xs i old new lt is stays = record {
+  grow = λ cells a h. in-sets-set xs i new old cells a (λ g. subst (In a) (sym (slot-stays old new cells stays)) (subst (λ (s : ShapeSet). In a (slot cells s)) (sym is) g)) h;
+  chained = λ ks are. chained-set ks ks xs i new old lt (λ x h. h) (λ h. set-stays ks old new stays (subst (AreChained ks) (sym is) h)) are;
+}
+
+-- a set of a list took the punctuation in, or not
+sets_take : (kept : List NumberedPunct) (at : ℕ) (xs : List ShapeSet) (i : ℕ) (old new : ShapeSet) (b : Bool) → i < length xs → old ≡ get_or xs i old → SetTakes kept at old new b → SetsTake kept at xs (set xs i new) b
+sets_take kept at xs i old new false lt is t = set_stays_among xs i old new lt is t
+sets_take kept at xs i old new true lt is t = record {
+  grow = λ cells a h. in-sets-set xs i new old cells a (λ g. t.grow cells a (subst (λ (s : ShapeSet). In a (slot cells s)) (sym is) g)) h;
+  leads = λ k cells e u. let r = t.leads k cells e u in (r.0, in-sets-here xs i new cells r.0 lt r.1, r.2);
+  chained = λ ks k e are.
+      subst (λ (ys : List NumberedPunct). AreSetsChained ys (set xs i new)) (sym e)
+      (chained-set ks (ks ++ k ∷ []) xs i new old lt (λ x h. set-more ks k x h) (λ h. subst (λ (ys : List NumberedPunct). AreChained ys new) e (t.chained ks k e (subst (AreChained ks) (sym is) h))) are);
+}
+
+pub sets_take_on : {E : Type 0} (kept : List NumberedPunct) (at : ℕ) (xs : List ShapeSet) (i : ℕ) (old new : ShapeSet) (r : Result Bool E) → i < length xs → old ≡ get_or xs i old → IfOk r (SetTakes kept at old new)
+    → IfOk r (SetsTake kept at xs (set xs i new))
+sets_take_on kept at xs i old new (Ok b) lt is t = sets_take kept at xs i old new b lt is t
+sets_take_on kept at xs i old new (Err e) lt is t = t
+
+pub sets_stay_on : {A E : Type 0} (xs : List ShapeSet) (i : ℕ) (old new : ShapeSet) (r : Result A E) → i < length xs → old ≡ get_or xs i old → OnErr r (SetStays old new) → OnErr r (SetsStay xs (set xs i new))
+sets_stay_on xs i old new (Ok a) lt is t = t
+sets_stay_on xs i old new (Err e) lt is t = set_stays_among xs i old new lt is t
+
+none-chained : (ks : List NumberedPunct) (s : ShapeSet) → ((n : ℕ) → numbers_in (get eqb s.chains n) ≡ []) → AreChained ks s
+none-chained ks s none n = subst (IsChained ks) (sym (none n)) (record { places_are = tt; grows = λ cells i m lt e. absurd (omega (arith, lt)) })
+
+-- a new set did, which had no chain
+pub sets_more : (kept : List NumberedPunct) (at : ℕ) (xs : List ShapeSet) (fresh s : ShapeSet) (b : Bool) → ((n : ℕ) → numbers_in (get eqb fresh.chains n) ≡ []) → SetTakes kept at fresh s b → SetsTake kept at xs (xs ++ s ∷ []) b
+sets_more kept at xs fresh s false none t = record {
+  grow = λ cells a h. in-sets-left xs (s ∷ []) cells a h;
+  chained = λ ks are. chained-last ks xs s are (set-stays ks fresh s t (none-chained ks fresh none));
+}
+sets_more kept at xs fresh s true none t = record {
+  grow = λ cells a h. in-sets-left xs (s ∷ []) cells a h;
+  leads = λ k cells e u. let r = t.leads k cells e u in (r.0, in-sets-last xs s cells r.0 r.1, r.2);
+  chained = λ ks k e are.
+      chained-last kept xs s (subst (λ (ys : List NumberedPunct). AreSetsChained ys xs) (sym e) (sets-more ks k xs are)) (t.chained ks k e (none-chained ks fresh none));
+}
 
 -- ---- the index
 
 -- what an index that grew needs
 pub filed : (kept : List NumberedPunct) (at : ℕ) (old new : Index) → at + 1 ≡ length kept → Grows (IsLedTo old) (IsLedTo new)
     → ((ks : List NumberedPunct) (k : NumberedPunct) → kept ≡ ks ++ k ∷ [] → AreColumns ks old.columns.items → AreLed kept at (IsLedTo new))
-    → ((ks : List NumberedPunct) (k : NumberedPunct) → kept ≡ ks ++ k ∷ [] → AreChained ks old.chains.items → AreChained kept new.chains.items)
+    → ((ks : List NumberedPunct) (k : NumberedPunct) → kept ≡ ks ++ k ∷ [] → AreSetsChained ks old.sets.items → AreSetsChained kept new.sets.items)
     → ((ks : List NumberedPunct) (k : NumberedPunct) → kept ≡ ks ++ k ∷ [] → AreColumns ks old.columns.items → AreColumns kept new.columns.items)
     → ((ks : List NumberedPunct) (k : NumberedPunct) → kept ≡ ks ++ k ∷ [] → ArePlaces 0 (length ks) old.rest → ArePlaces 0 (length kept) new.rest) → IsFiled kept old new
 filed kept at old new count grow leads chained columned others ks k e above is = record {
@@ -342,8 +367,8 @@ filed kept at old new count grow leads chained columned others ks k e above is =
         )
     go x (inr (inr none)) cells t = absurd none
 
-same-chains : (kept : List NumberedPunct) (cs ds : List Chain) → ds ≡ cs → (ks : List NumberedPunct) (k : NumberedPunct) → kept ≡ ks ++ k ∷ [] → AreChained ks cs → AreChained kept ds
-same-chains kept cs ds same ks k e are = subst (λ (xs : List NumberedPunct). AreChained xs ds) (sym e) (subst (AreChained (ks ++ k ∷ [])) (sym same) (all-chained-more ks k cs are))
+stay-chained : (kept : List NumberedPunct) (xs ys : List ShapeSet) → SetsStay xs ys → (ks : List NumberedPunct) (k : NumberedPunct) → kept ≡ ks ++ k ∷ [] → AreSetsChained ks xs → AreSetsChained kept ys
+stay-chained kept xs ys stay ks k e are = subst (λ (zs : List NumberedPunct). AreSetsChained zs ys) (sym e) (stay.chained (ks ++ k ∷ []) (sets-more ks k xs are))
 
 pub entries-more : (ks : List NumberedPunct) (k : NumberedPunct) (arity column : ℕ) (es : List Entry) → AreEntries ks arity column es → AreEntries (ks ++ k ∷ []) arity column es
 entries-more ks k arity column [] are = tt
@@ -365,50 +390,34 @@ same-columns kept cs ds same ks k e are = subst (λ (xs : List NumberedPunct). A
 same-rest : (kept : List NumberedPunct) (ps qs : List ℕ) → qs ≡ ps → (ks : List NumberedPunct) (k : NumberedPunct) → kept ≡ ks ++ k ∷ [] → ArePlaces 0 (length ks) ps → ArePlaces 0 (length kept) qs
 same-rest kept ps qs same ks k e are = subst (λ (xs : List NumberedPunct). ArePlaces 0 (length xs) qs) (sym e) (subst (ArePlaces 0 (length (ks ++ k ∷ []))) (sym same) (subst (λ n. ArePlaces 0 n ps) (sym (length-more ks k)) (places-more 0 (length ks) ps are)))
 
-led-grows : (old new : Index) → Grows (IsInSets old.sets.items) (IsInSets new.sets.items) → Grows (IsInChains old.chains.items) (IsInChains new.chains.items)
-    → Grows (IsInColumns old.columns.items) (IsInColumns new.columns.items) → ((a : ℕ) → In a old.rest → In a new.rest) → Grows (IsLedTo old) (IsLedTo new)
-led-grows old new f g i h cells a (inl s) = inl (f cells a s)
-led-grows old new f g i h cells a (inr (inl c)) = inr (inl (g cells a c))
-led-grows old new f g i h cells a (inr (inr (inl c))) = inr (inr (inl (i cells a c)))
-led-grows old new f g i h cells a (inr (inr (inr r))) = inr (inr (inr (h a r)))
-
-chains-same : (cs ds : List Chain) → ds ≡ cs → Grows (IsInChains cs) (IsInChains ds)
-chains-same cs ds e cells a h = subst (InChains a) (sym e) h
+led-grows : (old new : Index) → Grows (IsInSets old.sets.items) (IsInSets new.sets.items) → Grows (IsInColumns old.columns.items) (IsInColumns new.columns.items) → ((a : ℕ) → In a old.rest → In a new.rest)
+    → Grows (IsLedTo old) (IsLedTo new)
+led-grows old new f i h cells a (inl s) = inl (f cells a s)
+led-grows old new f i h cells a (inr (inl c)) = inr (inl (i cells a c))
+led-grows old new f i h cells a (inr (inr r)) = inr (inr (h a r))
 
 columns-same : (cs ds : List ColumnIndex) → ds ≡ cs → Grows (IsInColumns cs) (IsInColumns ds)
 columns-same cs ds e cells a h = subst (InColumns cells a) (sym e) h
 
 -- a set took it in
-pub filed_in_sets : (kept : List NumberedPunct) (at : ℕ) (old new : Index) → at + 1 ≡ length kept → Grows (IsInSets old.sets.items) (IsInSets new.sets.items) → AreLed kept at (IsInSets new.sets.items)
-    → new.chains.items ≡ old.chains.items → new.columns.items ≡ old.columns.items → new.rest ≡ old.rest → IsFiled kept old new
-filed_in_sets kept at old new count grow leads chains columns rest =
-    filed kept at old new count
-    (led-grows old new grow (chains-same old.chains.items new.chains.items chains) (columns-same old.columns.items new.columns.items columns) (λ a h. subst (In a) (sym rest) h))
-    (λ ks j q are k cells e t. let r = leads k cells e t in (r.0, inl r.1, r.2)) (same-chains kept old.chains.items new.chains.items chains) (same-columns kept old.columns.items new.columns.items columns)
-    (same-rest kept old.rest new.rest rest)
-
--- a chain did
-pub filed_in_chains : (kept : List NumberedPunct) (at : ℕ) (old new : Index) → at + 1 ≡ length kept → Grows (IsInSets old.sets.items) (IsInSets new.sets.items) → ChainsGrew kept at old.chains.items new.chains.items
-    → new.columns.items ≡ old.columns.items → new.rest ≡ old.rest → IsFiled kept old new
-filed_in_chains kept at old new count grow g columns rest =
-    filed kept at old new count (led-grows old new grow g.grow (columns-same old.columns.items new.columns.items columns) (λ a h. subst (In a) (sym rest) h))
-    (λ ks j q are k cells e t. let r = g.leads k cells e t in (r.0, inr (inl r.1), r.2)) g.chained (same-columns kept old.columns.items new.columns.items columns) (same-rest kept old.rest new.rest rest)
+pub filed_in_sets : (kept : List NumberedPunct) (at : ℕ) (old new : Index) → at + 1 ≡ length kept → SetsGrew kept at old.sets.items new.sets.items → new.columns.items ≡ old.columns.items → new.rest ≡ old.rest → IsFiled kept old new
+filed_in_sets kept at old new count g columns rest =
+    filed kept at old new count (led-grows old new g.grow (columns-same old.columns.items new.columns.items columns) (λ a h. subst (In a) (sym rest) h))
+    (λ ks j q are k cells e t. let r = g.leads k cells e t in (r.0, inl r.1, r.2)) g.chained (same-columns kept old.columns.items new.columns.items columns) (same-rest kept old.rest new.rest rest)
 
 -- a column's index did
-pub filed_in_columns : (kept : List NumberedPunct) (at : ℕ) (old new : Index) → at + 1 ≡ length kept → Grows (IsInSets old.sets.items) (IsInSets new.sets.items) → new.chains.items ≡ old.chains.items
-    → ColumnsGrew kept at old.columns.items new.columns.items → new.rest ≡ old.rest → IsFiled kept old new
-filed_in_columns kept at old new count grow chains g rest =
-    filed kept at old new count (led-grows old new grow (chains-same old.chains.items new.chains.items chains) g.grow (λ a h. subst (In a) (sym rest) h))
-    (λ ks j q are k cells e t. let r = g.leads ks j q are k cells e t in (r.0, inr (inr (inl r.1)), r.2)) (same-chains kept old.chains.items new.chains.items chains) g.columned (same-rest kept old.rest new.rest rest)
+pub filed_in_columns : (kept : List NumberedPunct) (at : ℕ) (old new : Index) → at + 1 ≡ length kept → SetsStay old.sets.items new.sets.items → ColumnsGrew kept at old.columns.items new.columns.items → new.rest ≡ old.rest
+    → IsFiled kept old new
+filed_in_columns kept at old new count stay g rest =
+    filed kept at old new count (led-grows old new stay.grow g.grow (λ a h. subst (In a) (sym rest) h))
+    (λ ks j q are k cells e t. let r = g.leads ks j q are k cells e t in (r.0, inr (inl r.1), r.2)) (stay-chained kept old.sets.items new.sets.items stay) g.columned (same-rest kept old.rest new.rest rest)
 
 -- it stands among the others
-pub filed_in_rest : (kept : List NumberedPunct) (at : ℕ) (old new : Index) → at + 1 ≡ length kept → Grows (IsInSets old.sets.items) (IsInSets new.sets.items) → new.chains.items ≡ old.chains.items
-    → new.columns.items ≡ old.columns.items → new.rest ≡ old.rest ++ at ∷ [] → IsFiled kept old new
-filed_in_rest kept at old new count grow chains columns rest =
-    filed kept at old new count
-    (led-grows old new grow (chains-same old.chains.items new.chains.items chains) (columns-same old.columns.items new.columns.items columns) (λ a h. subst (In a) (sym rest) (In-append_left a old.rest (at ∷ []) h)))
-    (λ ks j q are k cells e t. (at, inr (inr (inr (subst (In at) (sym rest) (In-append_right at old.rest (at ∷ []) (inl refl))))), record { punct = k; there = e; covers_too = t }))
-    (same-chains kept old.chains.items new.chains.items chains) (same-columns kept old.columns.items new.columns.items columns)
+pub filed_in_rest : (kept : List NumberedPunct) (at : ℕ) (old new : Index) → at + 1 ≡ length kept → SetsStay old.sets.items new.sets.items → new.columns.items ≡ old.columns.items → new.rest ≡ old.rest ++ at ∷ [] → IsFiled kept old new
+filed_in_rest kept at old new count stay columns rest =
+    filed kept at old new count (led-grows old new stay.grow (columns-same old.columns.items new.columns.items columns) (λ a h. subst (In a) (sym rest) (In-append_left a old.rest (at ∷ []) h)))
+    (λ ks j q are k cells e t. (at, inr (inr (subst (In at) (sym rest) (In-append_right at old.rest (at ∷ []) (inl refl)))), record { punct = k; there = e; covers_too = t }))
+    (stay-chained kept old.sets.items new.sets.items stay) (same-columns kept old.columns.items new.columns.items columns)
     (λ ks k e are.
     let size : at ≡ length ks = omega (arith, count, ap length e, length-more ks k) in
     subst (λ (xs : List NumberedPunct). ArePlaces 0 (length xs) new.rest) (sym e)
@@ -416,13 +425,13 @@ filed_in_rest kept at old new count grow chains columns rest =
     (subst (λ n. ArePlaces 0 n (old.rest ++ length ks ∷ [])) (sym (length-more ks k)) (places_push 0 (length ks) old.rest (omega arith) are))))
 
 -- none did, for want of memory
-pub unfiled : (old new : Index) → Grows (IsInSets old.sets.items) (IsInSets new.sets.items) → new.chains.items ≡ old.chains.items → ColumnsStay old.columns.items new.columns.items → new.rest ≡ old.rest → IsUnfiled old new
-unfiled old new grow chains stay rest ks is = record {
+pub unfiled : (old new : Index) → SetsStay old.sets.items new.sets.items → ColumnsStay old.columns.items new.columns.items → new.rest ≡ old.rest → IsUnfiled old new
+unfiled old new sets stay rest ks is = record {
   rising = is.rising;
   held = λ k h cells t.
       let r = is.held k h cells t in
-      (r.0, led-grows old new grow (chains-same old.chains.items new.chains.items chains) stay.grow (λ a g. subst (In a) (sym rest) g) cells r.0 r.1, r.2);
-  chained = subst (AreChained ks) (sym chains) is.chained;
+      (r.0, led-grows old new sets.grow stay.grow (λ a g. subst (In a) (sym rest) g) cells r.0 r.1, r.2);
+  chained = sets.chained ks is.chained;
   columned = stay.columned ks is.columned;
   others = subst (ArePlaces 0 (length ks)) (sym rest) is.others;
 }

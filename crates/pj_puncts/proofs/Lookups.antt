@@ -1,5 +1,5 @@
 -- What the lists of an index lead to is the first punctuation that covers the cells.
-use Rattle.std.proofs.Common.{◌≡◌, ℕ, zero, suc, ◌+◌, ◌<◌, ◌≤◌, Bool, true, false, cond, ◌&&◌, ◌||◌, List, [], ◌∷◌, Option, Some, None, IfSome, inl, inr, length, refl, ap, sym, ◌∙◌, subst, ltb, arith}
+use Rattle.std.proofs.Common.{◌≡◌, ℕ, zero, suc, ◌+◌, ◌<◌, ◌≤◌, Bool, true, false, cond, ◌&&◌, ◌||◌, List, [], ◌∷◌, Option, Some, None, IfSome, inl, inr, length, get_or, refl, ap, sym, ◌∙◌, subst, ltb, arith}
 use Rattle.std.specs.List.{slice_get}
 use Rattle.std.specs.Option.{is_some}
 use Rattle.std.proofs.lemmas.Bool.{false_from_ne_true, lt-ltb, ltb-false, ltb-true}
@@ -7,13 +7,12 @@ use Rattle.pj_value.specs.Lists.{In}
 use Rattle.pj_value.specs.declared.values.Value.{Value}
 use Rattle.pj_events.specs.Patterns.{covers, matches_row}
 use Rattle.pj_puncts.specs.declared.store.NumberedPunct.{NumberedPunct}
-use Rattle.pj_puncts.specs.declared.index.Chain.{Chain}
 use Rattle.pj_puncts.specs.declared.index.ColumnIndex.{ColumnIndex}
-use Rattle.pj_puncts.specs.declared.index.ConstantSet.{ConstantSet}
 use Rattle.pj_puncts.specs.declared.index.Index.{Index}
+use Rattle.pj_puncts.specs.declared.index.ShapeSet.{ShapeSet}
 use Rattle.pj_puncts.specs.Stores.{AllAbove, AreRising, TellsCover, covered_below, covered_by_any, first_match_of}
-use Rattle.pj_puncts.specs.Hashes.{row_cells}
-use Rattle.pj_puncts.specs.Indexed.{IsCovering, AreChained, ArePlaces, IsAtLeastAt, IsIndexed, InChains, InColumns, InSets, IsLeastOfColumns, first_at, first_covering, first_of, is_below, least, least_of_chains, least_of_sets, number_at, number_in, number_under, slot}
+use Rattle.pj_puncts.specs.Hashes.{hash_of, row_cells}
+use Rattle.pj_puncts.specs.Indexed.{IsCovering, AreChained, AreSetsChained, ArePlaces, IsAtLeastAt, IsIndexed, InColumns, InSets, IsLeastOfColumns, first_at, first_covering, first_of, is_below, least, least_of_sets, number_at, number_in, slot}
 use Rattle.pj_puncts.proofs.Cellwise.{row_covered}
 
 -- ---- bounds
@@ -95,30 +94,26 @@ module _ (kept : List NumberedPunct) (cells : List (Option Value)) where
       go None s ih = ih
       go (Some n) s ih = s
 
-  pub sound-under : (o : Option ℕ) → IsSound (number_under kept cells o)
+  -- the number of a place that may be there
+  abbrev pub number_under : Option ℕ → Option ℕ
+  number_under None = None
+  number_under (Some at) = number_at kept cells at
+
+  pub sound-under : (o : Option ℕ) → IsSound (number_under o)
   sound-under None = sound-none
   sound-under (Some at) = sound-at at
 
-  sound-sets : (best : Option ℕ) (sets : List ConstantSet) → IsSound best → IsSound (least_of_sets kept cells best sets)
+  sound-sets : (best : Option ℕ) (sets : List ShapeSet) → IsSound best → IsSound (least_of_sets kept cells best sets)
   sound-sets best [] s = s
-  sound-sets best (set ∷ sets) s = sound-sets (least best (number_under kept cells (slot cells set))) sets (sound-least best (number_under kept cells (slot cells set)) s (sound-under (slot cells set)))
-
-  sound-chains : (best : Option ℕ) (chains : List Chain) → IsSound best → IsSound (least_of_chains kept cells best chains)
-  sound-chains best [] s = s
-  sound-chains best (chain ∷ chains) s = sound-chains (least best (first_at kept cells chain.places)) chains (sound-least best (first_at kept cells chain.places) s (sound-first chain.places))
+  sound-sets best (set ∷ sets) s = sound-sets (least best (first_at kept cells (slot cells set))) sets (sound-least best (first_at kept cells (slot cells set)) s (sound-first (slot cells set)))
 
   sound-columns : (best : Option ℕ) (columns : List ColumnIndex) (o : Option ℕ) → IsSound best → IsLeastOfColumns kept cells best columns o → IsSound o
   sound-columns best [] o s is = subst IsSound (sym is) s
   sound-columns best (column ∷ columns) o s is = sound-columns (least best is.0) columns o (sound-least best is.0 s is.1.sound) is.2
 
-  sound-index : (index : Index) (o : Option ℕ) → IsLeastOfColumns kept cells (least_of_chains kept cells (least_of_sets kept cells None index.sets.items) index.chains.items) index.columns.items o
-      → IsSound (least o (first_at kept cells index.rest))
+  sound-index : (index : Index) (o : Option ℕ) → IsLeastOfColumns kept cells (least_of_sets kept cells None index.sets.items) index.columns.items o → IsSound (least o (first_at kept cells index.rest))
   sound-index index o is =
-      let sets = least_of_sets kept cells None index.sets.items in
-      let chains = least_of_chains kept cells sets index.chains.items in
-      sound-least o (first_at kept cells index.rest)
-      (sound-columns chains index.columns.items o (sound-chains sets index.chains.items (sound-sets None index.sets.items sound-none)) is)
-      (sound-first index.rest)
+      sound-least o (first_at kept cells index.rest) (sound-columns (least_of_sets kept cells None index.sets.items) index.columns.items o (sound-sets None index.sets.items sound-none) is) (sound-first index.rest)
 
   -- ---- nothing less is passed over
 
@@ -177,27 +172,16 @@ module _ (kept : List NumberedPunct) (cells : List (Option Value)) where
           let lt : a.0.number < b.0.number = rising-at kept x at a.0 b.0 rises (omega (arith, le)) a.1 b.1 in
           omega (arith, lt, a.2, b.2)
 
-  sets-keep : (best : Option ℕ) (sets : List ConstantSet) (n : ℕ) → IsUpTo best n → IsUpTo (least_of_sets kept cells best sets) n
+  sets-keep : (best : Option ℕ) (sets : List ShapeSet) (n : ℕ) → IsUpTo best n → IsUpTo (least_of_sets kept cells best sets) n
   sets-keep best [] n h = h
-  sets-keep best (set ∷ sets) n h = sets-keep (least best (number_under kept cells (slot cells set))) sets n (least-left best (number_under kept cells (slot cells set)) n h)
+  sets-keep best (set ∷ sets) n h = sets-keep (least best (first_at kept cells (slot cells set))) sets n (least-left best (first_at kept cells (slot cells set)) n h)
 
-  chains-keep : (best : Option ℕ) (chains : List Chain) (n : ℕ) → IsUpTo best n → IsUpTo (least_of_chains kept cells best chains) n
-  chains-keep best [] n h = h
-  chains-keep best (chain ∷ chains) n h = chains-keep (least best (first_at kept cells chain.places)) chains n (least-left best (first_at kept cells chain.places) n h)
-
-  sets-up-to : (best : Option ℕ) (sets : List ConstantSet) (at m : ℕ) → InSets cells at sets → number_at kept cells at ≡ Some m → IsUpTo (least_of_sets kept cells best sets) m
-  sets-up-to best [] at m h e = absurd h
-  sets-up-to best (set ∷ sets) at m (inl q) e =
-      let here : number_under kept cells (slot cells set) ≡ Some m = ap (number_under kept cells) q ∙ e in
-      sets-keep (least best (number_under kept cells (slot cells set))) sets m (least-right best (number_under kept cells (slot cells set)) m (subst (λ (o : Option ℕ). IsUpTo o m) (sym here) (omega arith)))
-  sets-up-to best (set ∷ sets) at m (inr h) e = sets-up-to (least best (number_under kept cells (slot cells set))) sets at m h e
-
-  chains-up-to : (best : Option ℕ) (chains : List Chain) (at m : ℕ) → AreRising kept → AreChained kept chains → InChains at chains → number_at kept cells at ≡ Some m → IsUpTo (least_of_chains kept cells best chains) m
-  chains-up-to best [] at m rises are h e = absurd h
-  chains-up-to best (chain ∷ chains) at m rises are (inl q) e =
-      chains-keep (least best (first_at kept cells chain.places)) chains m
-      (least-right best (first_at kept cells chain.places) m (first-up-to chain.places 0 (length kept) at m rises are.0.places_are q e))
-  chains-up-to best (chain ∷ chains) at m rises are (inr h) e = chains-up-to (least best (first_at kept cells chain.places)) chains at m rises are.1 h e
+  sets-up-to : (best : Option ℕ) (sets : List ShapeSet) (at m : ℕ) → AreRising kept → AreSetsChained kept sets → InSets cells at sets → number_at kept cells at ≡ Some m → IsUpTo (least_of_sets kept cells best sets) m
+  sets-up-to best [] at m rises are h e = absurd h
+  sets-up-to best (set ∷ sets) at m rises are (inl q) e =
+      sets-keep (least best (first_at kept cells (slot cells set))) sets m
+      (least-right best (first_at kept cells (slot cells set)) m (first-up-to (slot cells set) 0 (length kept) at m rises (are.0 (hash_of set.marks cells)).places_are q e))
+  sets-up-to best (set ∷ sets) at m rises are (inr h) e = sets-up-to (least best (first_at kept cells (slot cells set))) sets at m rises are.1 h e
 
   columns-keep : (best : Option ℕ) (columns : List ColumnIndex) (o : Option ℕ) (n : ℕ) → IsLeastOfColumns kept cells best columns o → IsUpTo best n → IsUpTo o n
   columns-keep best [] o n is h = subst (λ (x : Option ℕ). IsUpTo x n) (sym is) h
@@ -210,23 +194,18 @@ module _ (kept : List NumberedPunct) (cells : List (Option Value)) where
       columns-keep (least best is.0) columns o m is.2 (least-right best is.0 m (subst (λ (x : Option ℕ). IsUpTo x m) (sym here) (omega arith)))
   columns-up-to best (column ∷ columns) o at m is (inr h) e = columns-up-to (least best is.0) columns o at m is.2 h e
 
-  index-up-to : (index : Index) (o : Option ℕ) (n : ℕ) → IsIndexed kept index
-      → IsLeastOfColumns kept cells (least_of_chains kept cells (least_of_sets kept cells None index.sets.items) index.chains.items) index.columns.items o → Covering n
+  index-up-to : (index : Index) (o : Option ℕ) (n : ℕ) → IsIndexed kept index → IsLeastOfColumns kept cells (least_of_sets kept cells None index.sets.items) index.columns.items o → Covering n
       → IsUpTo (least o (first_at kept cells index.rest)) n
   index-up-to index o n is of c =
       let held = is.held c.0 c.1 cells c.2 in
       let there = number-there c.0.number held.0 held.2 in
       let sets = least_of_sets kept cells None index.sets.items in
-      let chains = least_of_chains kept cells sets index.chains.items in
       let other = first_at kept cells index.rest in
       up-to-more (least o other) there.0 n (elim held.1 [
-        | inl s ↦ least-left o other there.0 (columns-keep chains index.columns.items o there.0 of (chains-keep sets index.chains.items there.0 (sets-up-to None index.sets.items held.0 there.0 s there.1)))
+        | inl s ↦ least-left o other there.0 (columns-keep sets index.columns.items o there.0 of (sets-up-to None index.sets.items held.0 there.0 is.rising is.chained s there.1))
         | inr k ↦ elim k [
-          | inl s ↦ least-left o other there.0 (columns-keep chains index.columns.items o there.0 of (chains-up-to sets index.chains.items held.0 there.0 is.rising is.chained s there.1))
-          | inr r ↦ elim r [
-            | inl s ↦ least-left o other there.0 (columns-up-to chains index.columns.items o held.0 there.0 of s there.1)
-            | inr s ↦ least-right o other there.0 (first-up-to index.rest 0 (length kept) held.0 there.0 is.rising is.others s there.1)
-          ]
+          | inl s ↦ least-left o other there.0 (columns-up-to sets index.columns.items o held.0 there.0 of s there.1)
+          | inr s ↦ least-right o other there.0 (first-up-to index.rest 0 (length kept) held.0 there.0 is.rising is.others s there.1)
         ]
       ]) (omega (arith, there.2, c.3))
 
@@ -266,8 +245,7 @@ one-least ks cells (Some n) (Some m) s t f g = let a : n ≤ m = f m (t m refl) 
 
 -- what the index leads to is the first number
 pub index_first : (kept : List NumberedPunct) (cells : List (Option Value)) (index : Index) (o : Option ℕ) → IsIndexed kept index
-    → IsLeastOfColumns kept cells (least_of_chains kept cells (least_of_sets kept cells None index.sets.items) index.chains.items) index.columns.items o
-    → least o (first_at kept cells index.rest) ≡ first_covering kept cells
+    → IsLeastOfColumns kept cells (least_of_sets kept cells None index.sets.items) index.columns.items o → least o (first_at kept cells index.rest) ≡ first_covering kept cells
 index_first kept cells index o is of =
     one-least kept cells (least o (first_at kept cells index.rest)) (first_covering kept cells) (sound-index kept cells index o of) (first-sound kept cells) (λ n c. index-up-to kept cells index o n is of c) (λ n c. first-least kept cells n is.rising c)
 
@@ -345,7 +323,12 @@ pub told_below : (kept : List NumberedPunct) (cells : List (Option Value)) (belo
 told_below kept cells below (Some n) t = t.1
 told_below kept cells below None t = sym (false_from_ne_true (covered_below kept below cells) (λ c. let any : covered_by_any kept cells ≡ true = any-below kept below cells c in cc))
 
--- what a set leads to covers the cells
-pub under_covers : (kept : List NumberedPunct) (cells : List (Option Value)) (at o : Option ℕ) → o ≡ number_under kept cells at → IfSome o (IsCovering kept cells)
-under_covers kept cells at None e = tt
-under_covers kept cells at (Some n) e = sound-under kept cells at n (sym e)
+-- what some places lead to covers the cells
+pub first_covers : (kept : List NumberedPunct) (cells : List (Option Value)) (places : List ℕ) (o : Option ℕ) → o ≡ first_at kept cells places → IfSome o (IsCovering kept cells)
+first_covers kept cells places None e = tt
+first_covers kept cells places (Some n) e = sound-first kept cells places n (sym e)
+
+pub sets_chained : (kept : List NumberedPunct) (sets : List ShapeSet) (i : ℕ) (d : ShapeSet) → i < length sets → AreSetsChained kept sets → AreChained kept (get_or sets i d)
+sets_chained kept [] i d lt are = absurd (omega (arith, lt))
+sets_chained kept (s ∷ sets) zero d lt are = are.0
+sets_chained kept (s ∷ sets) (suc i) d lt are = sets_chained kept sets i d (omega (arith, lt)) are.1

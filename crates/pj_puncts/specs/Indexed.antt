@@ -1,5 +1,5 @@
 -- How punctuations are found by their forms.
-use Rattle.std.specs.Prelude.{ℕ, zero, suc, ◌+◌, ◌<◌, ◌≤◌, ◌≡◌, ◌⊎◌, ⊤, Bool, true, false, ◌&&◌, nat_lt, nat_eq, if◌then◌else◌, List, [], ◌∷◌, ◌++◌, length, Option, Some, None, slice_get, slice_index_or}
+use Rattle.std.specs.Prelude.{ℕ, zero, suc, ◌+◌, ◌<◌, ◌≤◌, ◌≡◌, ◌⊎◌, ⊤, Bool, true, false, not, ◌&&◌, nat_lt, nat_eq, if◌then◌else◌, List, [], ◌∷◌, ◌++◌, length, Option, Some, None, slice_get, slice_index_or}
 use Rattle.indexmap.specs.IndexMap.{get}
 use Rattle.pj_value.specs.Lists.{In}
 use Rattle.pj_value.specs.declared.values.Value.{Value}
@@ -9,8 +9,8 @@ use Rattle.pj_intervals.specs.Intervals.{Answers, Entry, first_place}
 use Rattle.pj_puncts.specs.Hashes.{cell_at, hash_of}
 use Rattle.pj_puncts.specs.Stores.{AreRising, IsAbove}
 use Rattle.pj_puncts.specs.declared.store.NumberedPunct.{NumberedPunct}
-use Rattle.pj_puncts.specs.declared.index.ConstantSet.{ConstantSet}
-use Rattle.pj_puncts.specs.declared.index.Chain.{Chain}
+use Rattle.pj_puncts.specs.Numbers.{numbers_in}
+use Rattle.pj_puncts.specs.declared.index.ShapeSet.{ShapeSet}
 use Rattle.pj_puncts.specs.declared.index.ColumnIndex.{ColumnIndex}
 use Rattle.pj_puncts.specs.declared.index.Index.{Index}
 
@@ -54,23 +54,14 @@ abbrev pub first_at : List NumberedPunct → List (Option Value) → List ℕ �
 first_at kept cells [] = None
 first_at kept cells (at ∷ ats) = first_of (number_at kept cells at) (first_at kept cells ats)
 
--- the place that a set of columns leads to
-abbrev pub slot : List (Option Value) → ConstantSet → Option ℕ
-slot cells set = get nat_eq set.places (hash_of set.marks cells)
+-- the places that a set has for the constants of the cells
+abbrev pub slot : List (Option Value) → ShapeSet → List ℕ
+slot cells set = numbers_in (get nat_eq set.chains (hash_of set.marks cells))
 
-abbrev pub number_under : List NumberedPunct → List (Option Value) → Option ℕ → Option ℕ
-number_under kept cells None = None
-number_under kept cells (Some at) = number_at kept cells at
-
--- the least of this number and those of the places that the sets lead to
-abbrev pub least_of_sets : List NumberedPunct → List (Option Value) → Option ℕ → List ConstantSet → Option ℕ
+-- the least of this number and the first ones of the places that the sets lead to
+abbrev pub least_of_sets : List NumberedPunct → List (Option Value) → Option ℕ → List ShapeSet → Option ℕ
 least_of_sets kept cells best [] = best
-least_of_sets kept cells best (set ∷ sets) = least_of_sets kept cells (least best (number_under kept cells (slot cells set))) sets
-
--- the least of this number and the first ones of the chains
-abbrev pub least_of_chains : List NumberedPunct → List (Option Value) → Option ℕ → List Chain → Option ℕ
-least_of_chains kept cells best [] = best
-least_of_chains kept cells best (chain ∷ chains) = least_of_chains kept cells (least best (first_at kept cells chain.places)) chains
+least_of_sets kept cells best (set ∷ sets) = least_of_sets kept cells (least best (first_at kept cells (slot cells set))) sets
 
 -- the column's index leads from the cells to this place: that of the first pattern that the value of its cell matches
 pub record IsInColumn (column : ColumnIndex) (cells : List (Option Value)) (at : ℕ) : Type 0 where
@@ -99,12 +90,12 @@ is_constant (Constant c) = true
 is_constant (Range low high) = false
 is_constant (Members ms) = false
 
--- a constant where it is marked, and a wildcard where not
+-- a constant exactly where it is marked
 abbrev pub fits_mark : Bool → Pattern → Bool
-fits_mark false p = is_wild p
+fits_mark false p = not (is_constant p)
 fits_mark true p = is_constant p
 
--- constants in the marked columns and wildcards elsewhere
+-- constants in exactly the marked columns
 abbrev pub fits_marks : List Bool → List Pattern → Bool
 fits_marks [] [] = true
 fits_marks [] (p ∷ ps) = false
@@ -126,13 +117,9 @@ pub record IsFilled (patterns : List Pattern) (column : ℕ) : Type 0 where
 -- ---- the index of a list of punctuations
 
 -- the place is one of those that these sets lead to
-abbrev pub InSets : List (Option Value) → ℕ → List ConstantSet → Type 0
+abbrev pub InSets : List (Option Value) → ℕ → List ShapeSet → Type 0
 InSets cells at [] = ⊥
-InSets cells at (set ∷ sets) = (slot cells set ≡ Some at) ⊎ InSets cells at sets
-
-abbrev pub InChains : ℕ → List Chain → Type 0
-InChains at [] = ⊥
-InChains at (chain ∷ chains) = In at chain.places ⊎ InChains at chains
+InSets cells at (set ∷ sets) = In at (slot cells set) ⊎ InSets cells at sets
 
 abbrev pub InColumns : List (Option Value) → ℕ → List ColumnIndex → Type 0
 InColumns cells at [] = ⊥
@@ -140,7 +127,7 @@ InColumns cells at (column ∷ columns) = IsInColumn column cells at ⊎ InColum
 
 -- the index leads from the cells to this place
 abbrev pub IsLedTo : Index → List (Option Value) → ℕ → Type 0
-IsLedTo index cells at = InSets cells at index.sets.items ⊎ (InChains at index.chains.items ⊎ (InColumns cells at index.columns.items ⊎ In at index.rest))
+IsLedTo index cells at = InSets cells at index.sets.items ⊎ (InColumns cells at index.columns.items ⊎ In at index.rest)
 
 -- the punctuation at this place has no greater number, and covers the cells
 pub record IsAtLeastAt (kept : List NumberedPunct) (number at : ℕ) (cells : List (Option Value)) : Type 0 where
@@ -163,13 +150,17 @@ abbrev pub IsChain : List NumberedPunct → List ℕ → Type 0
 IsChain kept places = (cells : List (Option Value)) (i n : ℕ) → i + 1 < length places → number_at kept cells (slice_index_or places i 0) ≡ Some n
     → (m : ℕ) × (number_at kept cells (slice_index_or places (i + 1) 0) ≡ Some m)
 
-pub record IsChained (kept : List NumberedPunct) (chain : Chain) : Type 0 where
-  pub places_are : ArePlaces 0 (length kept) chain.places
-  pub grows : IsChain kept chain.places
+pub record IsChained (kept : List NumberedPunct) (places : List ℕ) : Type 0 where
+  pub places_are : ArePlaces 0 (length kept) places
+  pub grows : IsChain kept places
 
-abbrev pub AreChained : List NumberedPunct → List Chain → Type 0
-AreChained kept [] = ⊤
-AreChained kept (chain ∷ chains) = IsChained kept chain × AreChained kept chains
+-- the places of each hash are a chain
+abbrev pub AreChained : List NumberedPunct → ShapeSet → Type 0
+AreChained kept set = (hash_value : ℕ) → IsChained kept (numbers_in (get nat_eq set.chains hash_value))
+
+abbrev pub AreSetsChained : List NumberedPunct → List ShapeSet → Type 0
+AreSetsChained kept [] = ⊤
+AreSetsChained kept (set ∷ sets) = AreChained kept set × AreSetsChained kept sets
 
 -- the punctuation at the entry's place has its pattern in this column, and wildcards elsewhere
 pub record IsEntry (kept : List NumberedPunct) (arity column : ℕ) (entry : Entry) : Type 0 where
@@ -197,7 +188,7 @@ AreHeld kept index = (k : NumberedPunct) → In k kept → IsHeld kept index k
 pub record IsIndexed (kept : List NumberedPunct) (index : Index) : Type 0 where
   pub rising : AreRising kept
   pub held : AreHeld kept index
-  pub chained : AreChained kept index.chains.items
+  pub chained : AreSetsChained kept index.sets.items
   pub columned : AreColumns kept index.columns.items
   pub others : ArePlaces 0 (length kept) index.rest
 
@@ -219,17 +210,14 @@ AreLed kept at leads =
 abbrev pub Grows : (List (Option Value) → ℕ → Type 0) → (List (Option Value) → ℕ → Type 0) → Type 0
 Grows old new = (cells : List (Option Value)) (a : ℕ) → old cells a → new cells a
 
-abbrev pub IsInSlot : ConstantSet → List (Option Value) → ℕ → Type 0
-IsInSlot set cells at = slot cells set ≡ Some at
+abbrev pub IsIn : List ℕ → List (Option Value) → ℕ → Type 0
+IsIn places cells at = In at places
 
-abbrev pub IsInSets : List ConstantSet → List (Option Value) → ℕ → Type 0
+abbrev pub IsInSlot : ShapeSet → List (Option Value) → ℕ → Type 0
+IsInSlot set cells at = In at (slot cells set)
+
+abbrev pub IsInSets : List ShapeSet → List (Option Value) → ℕ → Type 0
 IsInSets sets cells at = InSets cells at sets
-
-abbrev pub IsInChain : Chain → List (Option Value) → ℕ → Type 0
-IsInChain chain cells at = In at chain.places
-
-abbrev pub IsInChains : List Chain → List (Option Value) → ℕ → Type 0
-IsInChains chains cells at = InChains at chains
 
 abbrev pub IsInColumns : List ColumnIndex → List (Option Value) → ℕ → Type 0
 IsInColumns columns cells at = InColumns cells at columns
@@ -239,9 +227,9 @@ abbrev pub FitsAt : List NumberedPunct → ℕ → List Bool → Type 0
 FitsAt kept at marks = (k : NumberedPunct) → slice_get kept at ≡ Some k → fits_marks marks k.punct ≡ true
 
 -- this set has the marks of the patterns
-pub record IsSetFor (sets : List ConstantSet) (patterns : List Pattern) (at : ℕ) : Type 0 where
+pub record IsSetFor (sets : List ShapeSet) (patterns : List Pattern) (at : ℕ) : Type 0 where
   pub within : at < length sets
-  pub fits : (d : ConstantSet) → fits_marks (slice_index_or sets at d).marks patterns ≡ true
+  pub fits : (d : ShapeSet) → fits_marks (slice_index_or sets at d).marks patterns ≡ true
 
 abbrev pub covers_in : Option NumberedPunct → List Pattern → Bool
 covers_in None patterns = false
@@ -251,24 +239,46 @@ abbrev pub covered_in : Option NumberedPunct → List Pattern → Bool
 covered_in None patterns = false
 covered_in (Some k) patterns = covers_punct patterns k.punct
 
-pub record ChainGrew (kept : List NumberedPunct) (at : ℕ) (old new : Chain) : Type 0 where
-  pub grow : Grows (IsInChain old) (IsInChain new)
-  pub leads : AreLed kept at (IsInChain new)
+-- the chain took the punctuation in
+pub record ChainGrew (kept : List NumberedPunct) (at : ℕ) (old new : List ℕ) : Type 0 where
+  pub grow : (a : ℕ) → In a old → In a new
+  pub leads : AreLed kept at (IsIn new)
   pub chained : (ks : List NumberedPunct) (k : NumberedPunct) → kept ≡ ks ++ k ∷ [] → IsChained ks old → IsChained kept new
 
--- whether the chain took the punctuation in
-abbrev pub ChainTakes : List NumberedPunct → ℕ → Chain → Chain → Bool → Type 0
+-- whether it did
+abbrev pub ChainTakes : List NumberedPunct → ℕ → List ℕ → List ℕ → Bool → Type 0
 ChainTakes kept at old new false = new ≡ old
 ChainTakes kept at old new true = ChainGrew kept at old new
 
-pub record ChainsGrew (kept : List NumberedPunct) (at : ℕ) (old new : List Chain) : Type 0 where
-  pub grow : Grows (IsInChains old) (IsInChains new)
-  pub leads : AreLed kept at (IsInChains new)
+-- the set leads to where it led
+pub record SetStays (old new : ShapeSet) : Type 0 where
+  pub marks : new.marks ≡ old.marks
+  pub same : (hash_value : ℕ) → numbers_in (get nat_eq new.chains hash_value) ≡ numbers_in (get nat_eq old.chains hash_value)
+
+-- the set took the punctuation in
+pub record SetGrew (kept : List NumberedPunct) (at : ℕ) (old new : ShapeSet) : Type 0 where
+  pub grow : Grows (IsInSlot old) (IsInSlot new)
+  pub leads : AreLed kept at (IsInSlot new)
   pub chained : (ks : List NumberedPunct) (k : NumberedPunct) → kept ≡ ks ++ k ∷ [] → AreChained ks old → AreChained kept new
 
-abbrev pub ChainsTake : List NumberedPunct → ℕ → List Chain → List Chain → Bool → Type 0
-ChainsTake kept at old new false = new ≡ old
-ChainsTake kept at old new true = ChainsGrew kept at old new
+abbrev pub SetTakes : List NumberedPunct → ℕ → ShapeSet → ShapeSet → Bool → Type 0
+SetTakes kept at old new false = SetStays old new
+SetTakes kept at old new true = SetGrew kept at old new
+
+-- the sets lead to where they led
+pub record SetsStay (old new : List ShapeSet) : Type 0 where
+  pub grow : Grows (IsInSets old) (IsInSets new)
+  pub chained : (ks : List NumberedPunct) → AreSetsChained ks old → AreSetsChained ks new
+
+-- the sets took the punctuation in
+pub record SetsGrew (kept : List NumberedPunct) (at : ℕ) (old new : List ShapeSet) : Type 0 where
+  pub grow : Grows (IsInSets old) (IsInSets new)
+  pub leads : AreLed kept at (IsInSets new)
+  pub chained : (ks : List NumberedPunct) (k : NumberedPunct) → kept ≡ ks ++ k ∷ [] → AreSetsChained ks old → AreSetsChained kept new
+
+abbrev pub SetsTake : List NumberedPunct → ℕ → List ShapeSet → List ShapeSet → Bool → Type 0
+SetsTake kept at old new false = SetsStay old new
+SetsTake kept at old new true = SetsGrew kept at old new
 
 -- the place of a column's index for so many columns
 pub record IsColumnFor (columns : List ColumnIndex) (arity column at : ℕ) : Type 0 where

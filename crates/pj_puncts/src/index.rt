@@ -1,9 +1,10 @@
 // An index of punctuations by their forms.
-ghost use Rattle.std.specs.Prelude.{◌≡◌, ◌<◌, ◌≤◌, ◌+◌, [], true, None, IfOk, IfSome, OnOk, OnErr, length, map, slice_get};
+ghost use Rattle.std.specs.Prelude.{◌≡◌, ◌<◌, ◌≤◌, ◌+◌, [], None, IfOk, IfSome, OnOk, OnErr, length, map, slice_get};
 ghost use Rattle.pj_puncts.specs.Stores.{IsOneOf};
-ghost use Rattle.pj_puncts.specs.Indexed.{AreChained, AreLed, ChainTakes, ChainsTake, ColumnsStay, ColumnsTake, FitsAt, Grows, IsChained, IsColumnFor, IsCovering, IsFiled, IsFilled, IsInSets, IsInSlot, IsIndexed, IsLeastOfColumns, IsOfColumn, IsSetFor, IsUnfiled, covered_in, covers_in, first_at, first_covering, fits_mark, fits_marks, is_constant, least, least_of_chains, least_of_sets, number_at, number_under, slot};
+ghost use Rattle.pj_puncts.specs.Indexed.{AreChained, AreSetsChained, ChainTakes, ColumnsStay, ColumnsTake, FitsAt, IsChained, IsColumnFor, IsCovering, IsFiled, IsFilled, IsIndexed, IsLeastOfColumns, IsOfColumn, IsSetFor, IsUnfiled, SetStays, SetTakes, SetsStay, SetsTake, covered_in, covers_in, first_at, first_covering, fits_mark, fits_marks, is_constant, least, least_of_sets, number_at, slot};
 
 use crate::cells::{Cells, constants_hash};
+use crate::number_list::NumberList;
 use crate::numbers::{are_wild_from, first_filled};
 use crate::store::NumberedPunct;
 use indexmap::IndexMap;
@@ -13,20 +14,21 @@ use pj_shape::Scheme;
 use pj_value::{List, NoMemory};
 use std::alloc::Global;
 
-/// The punctuations with constants in the marked columns and wildcards elsewhere: for each hash of constants the place of
-/// the first punctuation that has it.
-#[derive(Drop)]
-pub struct ConstantSet {
-    marks: List<bool>,
-    places: IndexMap<u64, usize>,
-}
-
-/// Punctuations of which each covers all that the one before it covers, as watermarks of one column; by their places.
-#[derive(Drop)]
-pub struct Chain {
+/// The column of a range with one end, and whether that is the low one.
+#[derive(Clone, Copy, Drop)]
+pub struct Bound {
     column: usize,
     has_low: bool,
-    places: List<usize>,
+}
+
+/// Punctuations of one shape: constants in the marked columns and wildcards elsewhere, but where a column has a bound. For each
+/// hash of constants the places of some, in order, of which each covers all that the one before it covers, as watermarks of one
+/// key do.
+#[derive(Drop)]
+pub struct ShapeSet {
+    marks: List<bool>,
+    bound: Option<Bound>,
+    chains: IndexMap<u64, NumberList>,
 }
 
 /// Punctuations of so many columns with wildcards in all but this one, as ranges and lists of one column: the places by the
@@ -41,8 +43,7 @@ pub struct ColumnIndex {
 /// Where to look for a punctuation that covers some cells: which it can be, by their places.
 #[derive(Drop)]
 pub struct Index {
-    sets: Vec<ConstantSet>,
-    chains: Vec<Chain>,
+    sets: Vec<ShapeSet>,
     columns: Vec<ColumnIndex>,
     rest: List<usize>,
 }
@@ -54,7 +55,6 @@ impl Index {
     {
         Index {
             sets: Vec::new(alloc),
-            chains: Vec::new(alloc),
             columns: Vec::new(alloc),
             rest: List::new(alloc),
         }
@@ -67,29 +67,31 @@ impl Index {
         ensures { result ≡ first_covering kept.now (C.cells cells.now) }
     {
         let best = least_of_sets(self.sets.as_slice(), kept, cells);
-        let best = least_of_chains(self.chains.as_slice(), kept, cells, best);
         let best = least_of_columns(self.columns.as_slice(), kept, cells, best);
         least(best, first_at(self.rest.as_slice(), kept, cells))
     }
 
-    /// The number of a punctuation that covers the cells, looked for among those with constants in exactly these columns.
+    /// The number of a punctuation that covers the cells, looked for among those with constants in exactly these columns and
+    /// wildcards elsewhere.
     pub fn first_with<C: Cells>(
         &self,
         scheme: &Scheme,
         kept: &[NumberedPunct],
         cells: &C,
     ) -> Option<u64>
+        requires { IsIndexed kept.now self.now }
         ensures { IfSome result (IsCovering kept.now (C.cells cells.now)) }
     {
         for set in &self.sets {
-            if has_marks(set.marks.as_slice(), scheme) {
-                return number_in_set(set, kept, cells);
+            if set.bound.is_none() && has_marks(set.marks.as_slice(), scheme) {
+                return first_in_set(set, kept, cells);
             }
         }
         None
     }
 
-    /// The last watermark that bounds the column of this one at the same end; `None` where there is none, or it is no watermark.
+    /// The last watermark that has this one's constants and bounds the same column at the same end; `None` where there is none,
+    /// or this is no watermark.
     pub fn last_like<'a>(
         &self,
         kept: &'a [NumberedPunct],
@@ -97,13 +99,14 @@ impl Index {
     ) -> Option<&'a Punct>
         ensures { IfSome result (λ last. IsOneOf kept.now last.now) }
     {
-        match watermark(patterns) {
+        match bound_of(patterns) {
             None => None,
-            Some((column, has_low)) => match chain_for(self.chains.as_slice(), column, has_low) {
+            Some(None) => None,
+            Some(bound) => match set_for(self.sets.as_slice(), patterns, bound) {
                 None => None,
-                Some(place) => match self.chains[place].places.as_slice().last() {
+                Some(place) => match last_in_set(&self.sets[place], patterns) {
                     None => None,
-                    Some(at) => match kept.get(*at) {
+                    Some(at) => match kept.get(at) {
                         None => None,
                         Some(one) => Some(&one.punct),
                     },
@@ -119,9 +122,6 @@ impl Index {
         ensures err { OnErr result (IsUnfiled self.old self.new) }
     {
         if file_in_sets(&mut self.sets, alloc, kept, at)? {
-            return Ok(());
-        }
-        if file_in_chains(&mut self.chains, alloc, kept, at)? {
             return Ok(());
         }
         if file_in_columns(&mut self.columns, alloc, kept, at)? {
@@ -163,39 +163,26 @@ fn number_at<C: Cells>(kept: &[NumberedPunct], at: usize, cells: &C) -> Option<u
     }
 }
 
-fn number_in_set<C: Cells>(set: &ConstantSet, kept: &[NumberedPunct], cells: &C) -> Option<u64>
-    ensures { result ≡ number_under kept.now (C.cells cells.now) (slot (C.cells cells.now) set.now) }
+// The first number of a set: that of the chain of the cells' constants.
+fn first_in_set<C: Cells>(set: &ShapeSet, kept: &[NumberedPunct], cells: &C) -> Option<u64>
+    requires { AreChained kept.now set.now }
+    ensures { result ≡ first_at kept.now (C.cells cells.now) (slot (C.cells cells.now) set.now) }
 {
-    match set.places.get(&cells.hash_value(set.marks.as_slice())) {
+    match set.chains.get(&cells.hash_value(set.marks.as_slice())) {
         None => None,
-        Some(at) => number_at(kept, *at, cells),
+        Some(chain) => first_in_chain(chain.as_slice(), kept, cells),
     }
 }
 
-fn least_of_sets<C: Cells>(sets: &[ConstantSet], kept: &[NumberedPunct], cells: &C) -> Option<u64>
+fn least_of_sets<C: Cells>(sets: &[ShapeSet], kept: &[NumberedPunct], cells: &C) -> Option<u64>
+    requires { AreSetsChained kept.now sets.now }
     ensures { result ≡ least_of_sets kept.now (C.cells cells.now) None sets.now }
 {
     let mut best = None;
     for set in sets {
-        best = least(best, number_in_set(set, kept, cells));
+        best = least(best, first_in_set(set, kept, cells));
     }
     best
-}
-
-fn least_of_chains<C: Cells>(
-    chains: &[Chain],
-    kept: &[NumberedPunct],
-    cells: &C,
-    best: Option<u64>,
-) -> Option<u64>
-    requires { AreChained kept.now chains.now }
-    ensures { result ≡ least_of_chains kept.now (C.cells cells.now) best chains.now }
-{
-    let mut lesser = best;
-    for chain in chains {
-        lesser = least(lesser, first_in_chain(chain, kept, cells));
-    }
-    lesser
 }
 
 // The place to look at next between these: in steps from the end that grow, then in the middle.
@@ -213,18 +200,17 @@ fn next_place(low: usize, high: usize, step: usize) -> usize
 }
 
 // The first number of a chain. What is asked for is mostly covered by no place, or by one of the last alone.
-fn first_in_chain<C: Cells>(chain: &Chain, kept: &[NumberedPunct], cells: &C) -> Option<u64>
-    requires { IsChained kept.now chain.now }
-    ensures { result ≡ first_at kept.now (C.cells cells.now) chain.now.places }
+fn first_in_chain<C: Cells>(places: &[u64], kept: &[NumberedPunct], cells: &C) -> Option<u64>
+    requires { IsChained kept.now places.now }
+    ensures { result ≡ first_at kept.now (C.cells cells.now) places.now }
 {
-    let places = chain.places.as_slice();
     let mut low = 0;
     let mut high = places.len();
     let mut step = 0_usize;
     let mut found = None;
     while low < high {
         let middle = next_place(low, high, step);
-        match number_at(kept, places[middle], cells) {
+        match number_at(kept, places[middle] as usize, cells) {
             None => low = middle + 1,
             Some(number) => {
                 found = Some(number);
@@ -292,7 +278,7 @@ fn has_marks(marks: &[bool], scheme: &Scheme) -> bool {
     true
 }
 
-// Whether the patterns are constants in the marked columns and wildcards elsewhere.
+// Whether the patterns are constants in exactly the marked columns.
 fn fits_marks(marks: &[bool], patterns: &[Pattern]) -> bool
     ensures { result ≡ fits_marks marks.now patterns.now }
 {
@@ -310,11 +296,7 @@ fn fits_marks(marks: &[bool], patterns: &[Pattern]) -> bool
 fn fits_mark(is_marked: bool, pattern: &Pattern) -> bool
     ensures { result ≡ fits_mark is_marked pattern.now }
 {
-    if is_marked {
-        is_constant(pattern)
-    } else {
-        pattern.is_wild()
-    }
+    is_constant(pattern) == is_marked
 }
 
 fn is_constant(pattern: &Pattern) -> bool
@@ -340,16 +322,65 @@ fn marks_of(alloc: Global, patterns: &[Pattern]) -> Result<List<bool>, NoMemory>
     Ok(marks)
 }
 
-// The place of the first set that the patterns fit.
-fn set_for(sets: &[ConstantSet], patterns: &[Pattern]) -> Option<usize>
+// Whether both are the same bound.
+fn same_bound(one: Option<Bound>, other: Option<Bound>) -> bool {
+    match one {
+        None => other.is_none(),
+        Some(a) => match other {
+            None => false,
+            Some(b) => a.column == b.column && a.has_low == b.has_low,
+        },
+    }
+}
+
+// The place of the first set whose shape the patterns have.
+fn set_for(sets: &[ShapeSet], patterns: &[Pattern], bound: Option<Bound>) -> Option<usize>
     ensures { IfSome result (IsSetFor sets.now patterns.now) }
 {
     for at in 0..sets.len() {
-        if fits_marks(sets[at].marks.as_slice(), patterns) {
+        if same_bound(sets[at].bound, bound) && fits_marks(sets[at].marks.as_slice(), patterns) {
             return Some(at);
         }
     }
     None
+}
+
+// The column of the patterns with a bound, where one has; or none where there is another form than constants, wildcards and one
+// bound.
+fn bound_of(patterns: &[Pattern]) -> Option<Option<Bound>> {
+    let mut found = None;
+    for column in 0..patterns.len() {
+        match patterns[column].shape() {
+            Shape::Wild => {}
+            Shape::Empty => return None,
+            Shape::Constant(_) => {}
+            Shape::Members(_) => return None,
+            Shape::Range(low, high) => {
+                if found.is_some() || low.is_some() == high.is_some() {
+                    return None;
+                }
+                found = Some(Bound {
+                    column,
+                    has_low: low.is_some(),
+                });
+            }
+        }
+    }
+    Some(found)
+}
+
+// The last place of the chain of these constants.
+fn last_in_set(set: &ShapeSet, patterns: &[Pattern]) -> Option<usize> {
+    match set
+        .chains
+        .get(&constants_hash(set.marks.as_slice(), patterns))
+    {
+        None => None,
+        Some(chain) => match chain.as_slice().last() {
+            None => None,
+            Some(at) => Some(*at as usize),
+        },
+    }
 }
 
 // Whether the punctuation at a place covers the other.
@@ -372,161 +403,79 @@ fn is_covered_there(kept: &[NumberedPunct], place: usize, other: &Punct) -> bool
     }
 }
 
-impl ConstantSet {
-    // The set of this punctuation, which has constants and wildcards alone.
-    fn of(
-        alloc: Global,
-        marks: List<bool>,
-        kept: &[NumberedPunct],
-        at: usize,
-    ) -> Result<ConstantSet, NoMemory>
-        requires there { at < length kept.now }
-        requires fits { FitsAt kept.now at marks }
-        ensures { IfOk result (λ set. AreLed kept.now at (IsInSlot set)) }
-    {
-        let hash_value = constants_hash(marks.as_slice(), kept[at].punct.as_slice());
-        let mut places = IndexMap::new(alloc);
-        places.insert(hash_value, at)?;
-        Ok(ConstantSet { marks, places })
-    }
-
-    // Takes in the punctuation at a place, where none of its hash or one that covers it is there; or not.
-    fn file(&mut self, kept: &[NumberedPunct], at: usize) -> Result<bool, NoMemory>
-        requires there { at < length kept.now }
-        requires fits { FitsAt kept.now at self.old.marks }
-        ensures grows { Grows (IsInSlot self.old) (IsInSlot self.new) }
-        ensures leads { IfOk result (λ filed. filed ≡ true → AreLed kept.now at (IsInSlot self.new)) }
-    {
-        let punct = &kept[at].punct;
-        let hash_value = constants_hash(self.marks.as_slice(), punct.as_slice());
-        match self.places.get(&hash_value) {
-            None => {
-                self.places.insert(hash_value, at)?;
-                Ok(true)
-            }
-            Some(first) => Ok(covers_there(kept, *first, punct)),
-        }
-    }
-}
-
-// Takes in the punctuation at a place, where it has constants and wildcards alone and its hash is free; or not.
-fn file_in_sets(
-    sets: &mut Vec<ConstantSet>,
-    alloc: Global,
-    kept: &[NumberedPunct],
-    at: usize,
-) -> Result<bool, NoMemory>
-    requires there { at < length kept.now }
-    ensures grows { Grows (IsInSets sets.old.items) (IsInSets sets.new.items) }
-    ensures leads { IfOk result (λ filed. filed ≡ true → AreLed kept.now at (IsInSets sets.new.items)) }
-{
-    let patterns = kept[at].punct.as_slice();
-    match set_for(sets.as_slice(), patterns) {
-        Some(place) => sets[place].file(kept, at),
-        None => file_in_new_set(sets, alloc, kept, at),
-    }
-}
-
-fn file_in_new_set(
-    sets: &mut Vec<ConstantSet>,
-    alloc: Global,
-    kept: &[NumberedPunct],
-    at: usize,
-) -> Result<bool, NoMemory>
-    requires there { at < length kept.now }
-    ensures grows { Grows (IsInSets sets.old.items) (IsInSets sets.new.items) }
-    ensures leads { IfOk result (λ filed. filed ≡ true → AreLed kept.now at (IsInSets sets.new.items)) }
-{
-    let patterns = kept[at].punct.as_slice();
-    let marks = marks_of(alloc, patterns)?;
-    if !fits_marks(marks.as_slice(), patterns) {
-        return Ok(false);
-    }
-    sets.push(ConstantSet::of(alloc, marks, kept, at)?)?;
-    Ok(true)
-}
-
-impl Chain {
-    // Takes in the punctuation at the last place, where the chain's last one covers it or is covered by it; or not.
-    fn file(&mut self, kept: &[NumberedPunct], at: usize) -> Result<bool, NoMemory>
-        requires { at + 1 ≡ length kept.now }
-        ensures ok { IfOk result (ChainTakes kept.now at self.old self.new) }
-        ensures err { OnErr result (self.new ≡ self.old) }
-    {
-        let punct = &kept[at].punct;
-        let count = self.places.len();
-        if count > 0 {
-            let last = self.places.as_slice()[count - 1];
-            if covers_there(kept, last, punct) {
-                return Ok(true);
-            }
-            if !is_covered_there(kept, last, punct) {
-                return Ok(false);
-            }
-        }
-        self.places.push(at)?;
-        Ok(true)
-    }
-}
-
-// Takes in the punctuation at the last place, where it is a watermark that fits a chain; or not.
-fn file_in_chains(
-    chains: &mut Vec<Chain>,
+// Takes the punctuation at the last place into a chain, where the last one there covers it or is covered by it; or not.
+fn extend(
+    chain: &mut NumberList,
     alloc: Global,
     kept: &[NumberedPunct],
     at: usize,
 ) -> Result<bool, NoMemory>
     requires { at + 1 ≡ length kept.now }
-    ensures ok { IfOk result (ChainsTake kept.now at chains.old.items chains.new.items) }
-    ensures err { OnErr result (chains.new.items ≡ chains.old.items) }
+    ensures ok { IfOk result (ChainTakes kept.now at chain.old chain.new) }
+    ensures err { OnErr result (chain.new ≡ chain.old) }
 {
-    match watermark(kept[at].punct.as_slice()) {
-        None => Ok(false),
-        Some((column, has_low)) => match chain_for(chains.as_slice(), column, has_low) {
-            Some(place) => chains[place].file(kept, at),
+    let punct = &kept[at].punct;
+    let count = chain.as_slice().len();
+    if count > 0 {
+        let last = chain.as_slice()[count - 1] as usize;
+        if covers_there(kept, last, punct) {
+            return Ok(true);
+        }
+        if !is_covered_there(kept, last, punct) {
+            return Ok(false);
+        }
+    }
+    chain.push(alloc, at as u64)?;
+    Ok(true)
+}
+
+impl ShapeSet {
+    // Takes in the punctuation at the last place, where its chain takes it; or not.
+    fn file(&mut self, alloc: Global, kept: &[NumberedPunct], at: usize) -> Result<bool, NoMemory>
+        requires last { at + 1 ≡ length kept.now }
+        requires fits { FitsAt kept.now at self.old.marks }
+        ensures ok { IfOk result (SetTakes kept.now at self.old self.new) }
+        ensures err { OnErr result (SetStays self.old self.new) }
+    {
+        let hash_value = constants_hash(self.marks.as_slice(), kept[at].punct.as_slice());
+        match self.chains.get_mut(&hash_value) {
+            Some(chain) => extend(chain, alloc, kept, at),
             None => {
-                let mut places = List::new(alloc);
-                places.push(at)?;
-                chains.push(Chain {
-                    column,
-                    has_low,
-                    places,
-                })?;
+                self.chains.insert(hash_value, NumberList::one(at as u64))?;
                 Ok(true)
+            }
+        }
+    }
+}
+
+// Takes in the punctuation at the last place, where it has the shape of a set whose chain takes it; or not.
+fn file_in_sets(
+    sets: &mut Vec<ShapeSet>,
+    alloc: Global,
+    kept: &[NumberedPunct],
+    at: usize,
+) -> Result<bool, NoMemory>
+    requires { at + 1 ≡ length kept.now }
+    ensures ok { IfOk result (SetsTake kept.now at sets.old.items sets.new.items) }
+    ensures err { OnErr result (SetsStay sets.old.items sets.new.items) }
+{
+    let patterns = kept[at].punct.as_slice();
+    match bound_of(patterns) {
+        None => Ok(false),
+        Some(bound) => match set_for(sets.as_slice(), patterns, bound) {
+            Some(place) => sets[place].file(alloc, kept, at),
+            None => {
+                let mut set = ShapeSet {
+                    marks: marks_of(alloc, patterns)?,
+                    bound,
+                    chains: IndexMap::new(alloc),
+                };
+                let filed = set.file(alloc, kept, at)?;
+                sets.push(set)?;
+                Ok(filed)
             }
         },
     }
-}
-
-// The column of the only pattern that is no wildcard, where this is a range with one end, and whether that is the low one.
-fn watermark(patterns: &[Pattern]) -> Option<(usize, bool)> {
-    let mut found = None;
-    for column in 0..patterns.len() {
-        match patterns[column].shape() {
-            Shape::Wild => {}
-            Shape::Empty => return None,
-            Shape::Constant(_) => return None,
-            Shape::Members(_) => return None,
-            Shape::Range(low, high) => {
-                if found.is_some() || low.is_some() == high.is_some() {
-                    return None;
-                }
-                found = Some((column, low.is_some()));
-            }
-        }
-    }
-    found
-}
-
-fn chain_for(chains: &[Chain], column: usize, has_low: bool) -> Option<usize>
-    ensures { IfSome result (λ at. at < length chains.now) }
-{
-    for at in 0..chains.len() {
-        if chains[at].column == column && chains[at].has_low == has_low {
-            return Some(at);
-        }
-    }
-    None
 }
 
 // Takes in the punctuation at the last place, where it has wildcards in all columns but one; or not.

@@ -83,8 +83,8 @@ impl PunctStore {
         }
     }
 
-    /// The last watermark that came and bounds the same column at the same end; `None` where there is none, or the punctuation
-    /// is no watermark: a range with one end in a column, and wildcards elsewhere.
+    /// The last watermark that came with the same constants, and bounds the same column at the same end; `None` where there is
+    /// none, or the punctuation is no watermark: a range with one end in a column, and constants and wildcards elsewhere.
     pub fn last_like(&self, punct: &Punct) -> Option<&Punct>
         ensures { IfSome result (λ last. IsOneOf self.now.kept last.now) }
     {
